@@ -1,0 +1,5 @@
+-- The laws of this crate's definitions, for its own proofs and for the crates above.
+pub mod TestLaws
+pub mod NumberLaws
+pub mod PathLaws
+pub mod MaskLaws

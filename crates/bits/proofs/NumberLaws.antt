@@ -1,0 +1,67 @@
+-- Laws of numbers as bytes: one byte more, how large a number of few bytes can be, and that bytes fix their number.
+-- Assumes nothing.
+use mathlib.Core.Path.{_≡_, refl, sym, ap, _∙_}
+use mathlib.Core.List.{List, [], _∷_, _++_}
+use Prim.Native.Nat.{ℕ, zero, suc, _+_, _*_, _/_, _%_, _^_, _≤_, _<_}
+use native.Mathlib.Nat.{lt-of-lt-of-le, div-add-mod', mod-lt, pow-suc, one-le-pow, mul-assoc, mul-right-comm, add-mul, add-assoc, zero-lt-suc, zero-add}
+use native.Mathlib.Numerals.{add-one}
+use native.Mathlib.Omega.{arith}
+use lib.ListN.{length, getD, take, drop, length-drop}
+use lib.Seq.{take-suc, getD-drop}
+use lib.Pow.{pow-add, pow-mono}
+use Rattle.bits.specs.Number.{numberFrom, number, numberAt, bytesOf}
+
+-- ---- one byte more
+
+from-snoc : (n : ℕ) (bs : List ℕ) (b : ℕ) → numberFrom n (bs ++ (b ∷ [])) ≡ numberFrom n bs * 256 + b
+unfolding numberFrom
+from-snoc n [] b = refl
+from-snoc n (c ∷ bs) b = from-snoc (n * 256 + c) bs b
+
+pub number-none : (bytes : List ℕ) (at : ℕ) → numberAt bytes at 0 ≡ 0
+unfolding numberAt number numberFrom
+number-none bytes at = refl
+
+pub number-more : (bytes : List ℕ) (at i : ℕ) → at + i < length bytes → numberAt bytes at i * 256 + getD bytes (at + i) 0 ≡ numberAt bytes at (i + 1)
+unfolding numberAt number
+number-more bytes at i h =
+    let inside : i < length (drop at bytes) = omega (arith, length-drop at bytes) in
+    rw (add-one i, take-suc (drop at bytes) i 0 inside, getD-drop at bytes i 0) (sym (from-snoc 0 (take i (drop at bytes)) (getD bytes (at + i) 0)))
+
+-- ---- how large
+
+pub byte-more : (n b i : ℕ) → n < 2 ^ (8 * i) → b < 256 → n * 256 + b < 2 ^ (8 * (i + 1))
+byte-more n b i hn hb =
+    let e : 8 * (i + 1) ≡ 8 * i + 8 = omega arith in
+    rw e (omega (arith, pow-add 2 (8 * i) 8))
+
+pub byte-room : (n i : ℕ) → n < 2 ^ (8 * i) → i < 4 → n < 2 ^ 24
+byte-room n i hn hi = lt-of-lt-of-le hn (pow-mono {j = 24} (omega arith))
+
+-- ---- bytes fix their number
+
+digits-join : (n q p r : ℕ) → (n * 256 + q) * p + r ≡ n * (p * 256) + (q * p + r)
+digits-join n q p r =
+    ap (λ (x : ℕ). x + r) (add-mul (n * 256) q p ∙ ap (λ (x : ℕ). x + q * p) (mul-right-comm n 256 p ∙ mul-assoc n p 256))
+    ∙ add-assoc (n * (p * 256)) (q * p) r
+
+-- the bytes of a number after n, where the number fits them
+from-bytes : (size n v : ℕ) → v < 256 ^ size → numberFrom n (bytesOf size v) ≡ n * 256 ^ size + v
+unfolding numberFrom bytesOf
+from-bytes zero n v h = omega arith
+from-bytes (suc size) n v h =
+    let p = 256 ^ size in
+    let r = v % p in
+    let rest : numberFrom (n * 256 + v / p) (bytesOf size r) ≡ (n * 256 + v / p) * p + r =
+    from-bytes size (n * 256 + v / p) r (mod-lt v (one-le-pow size 256 (zero-lt-suc 255)))
+    in
+    rest ∙ digits-join n (v / p) p r ∙ ap (λ (x : ℕ). n * (p * 256) + x) (div-add-mod' v p) ∙ ap (λ (x : ℕ). n * x + v) (sym (pow-suc 256 size))
+
+-- the first byte takes whatever does not fit the others, so nothing is lost
+pub number-bytes : (size v : ℕ) → number (bytesOf (suc size) v) ≡ v
+unfolding number bytesOf numberFrom
+number-bytes size v =
+    let p = 256 ^ size in
+    from-bytes size (0 * 256 + v / p) (v % p) (mod-lt v (one-le-pow size 256 (zero-lt-suc 255)))
+    ∙ ap (λ (q : ℕ). q * p + v % p) (zero-add (v / p))
+    ∙ div-add-mod' v p

@@ -1,0 +1,76 @@
+-- Laws of paths, over any width: a prefix leads a value exactly when both have the same number above the bits after it,
+-- and a stray bit is a remainder that is not zero.
+-- Assumes nothing.
+use mathlib.Core.Path.{_≡_, refl, sym, ap, ap₂, _∙_}
+use mathlib.Core.Bool.{Bool, true, false, not, _&&_, _||_, Bool·beq}
+use mathlib.Core.List.{List, [], _∷_}
+use Prim.Native.Nat.{ℕ, zero, suc, _+_, _-_, _*_, _/_, _%_, _^_, _≤_, _<_}
+use native.Mathlib.Nat.{add-comm, suc-add, zero-add, mod-one, mod-lt, zero-lt-suc}
+use native.Mathlib.Omega.{arith}
+use lib.Dec.{eqb}
+use lib.ListN.{take, drop}
+use lib.Pow.{pow-pos, shr-shr, mod-pow-add, shr-mod}
+use borrow.Author.Tests.{eq-eqb, ne-eqb}
+use Rattle.bits.specs.Tests.{any}
+use Rattle.bits.specs.Path.{Path, bits, prefix, leads, stray}
+use Rattle.bits.proofs.TestLaws.{same-eqb}
+
+-- ---- a prefix leads a value
+
+-- numbers of two digits, the upper a bit and the lower below e
+two-digits : (e a b s t : ℕ) → a < 2 → b < 2 → s < e → t < e → (Bool·beq (eqb a 1) (eqb b 1) && eqb s t) ≡ eqb (a * e + s) (b * e + t)
+two-digits e zero zero s t ha hb hs ht = same-eqb s t (0 * e + s) (0 * e + t) (λ q. omega arith) (λ q. omega arith)
+two-digits e zero (suc zero) s t ha hb hs ht = sym (ne-eqb (0 * e + s) (1 * e + t) (λ q. omega arith))
+two-digits e zero (suc (suc b)) s t ha hb hs ht = absurd (omega arith)
+two-digits e (suc zero) zero s t ha hb hs ht = sym (ne-eqb (1 * e + s) (0 * e + t) (λ q. omega arith))
+two-digits e (suc zero) (suc zero) s t ha hb hs ht = same-eqb s t (1 * e + s) (1 * e + t) (λ q. omega arith) (λ q. omega arith)
+two-digits e (suc zero) (suc (suc b)) s t ha hb hs ht = absurd (omega arith)
+two-digits e (suc (suc a)) b s t ha hb hs ht = absurd (omega arith)
+
+-- of the l + 1 bits above the k lowest: the top one, and the rest
+top-bits : (v l k : ℕ) → v / 2 ^ k % 2 ^ suc l ≡ (v / 2 ^ (l + k) % 2) * 2 ^ l + v / 2 ^ k % 2 ^ l
+top-bits v l k =
+    ap (λ (x : ℕ). v / 2 ^ k % 2 ^ x) (omega arith) ∙ mod-pow-add (v / 2 ^ k) 1 l
+    ∙ ap (λ (x : ℕ). (x % 2) * 2 ^ l + v / 2 ^ k % 2 ^ l) (shr-shr v k l ∙ ap (λ (x : ℕ). v / 2 ^ x) (add-comm k l))
+
+leads-top : (l k v x : ℕ) → leads (prefix (l + k) v l) (bits (l + k) x) ≡ eqb (v / 2 ^ k % 2 ^ l) (x / 2 ^ k % 2 ^ l)
+unfolding bits prefix leads
+leads-top zero k v x = sym (eq-eqb (v / 2 ^ k % 1) (x / 2 ^ k % 1) (mod-one (v / 2 ^ k) ∙ sym (mod-one (x / 2 ^ k))))
+leads-top (suc l) k v x =
+    ap (λ (w : ℕ). leads (take (suc l) (bits w v)) (bits w x)) (suc-add l k)
+    ∙ ap (λ t. Bool·beq (eqb (v / 2 ^ (l + k) % 2) 1) (eqb (x / 2 ^ (l + k) % 2) 1) && t) (leads-top l k v x)
+    ∙ two-digits (2 ^ l) (v / 2 ^ (l + k) % 2) (x / 2 ^ (l + k) % 2) (v / 2 ^ k % 2 ^ l) (x / 2 ^ k % 2 ^ l)
+    (mod-lt (v / 2 ^ (l + k)) (zero-lt-suc 1)) (mod-lt (x / 2 ^ (l + k)) (zero-lt-suc 1)) (mod-lt (v / 2 ^ k) (pow-pos l)) (mod-lt (x / 2 ^ k) (pow-pos l))
+    ∙ sym (ap₂ eqb (top-bits v l k) (top-bits x l k))
+
+pub leads-number : (w l v x : ℕ) → l ≤ w → v < 2 ^ w → x < 2 ^ w → leads (prefix w v l) (bits w x) ≡ eqb (v / 2 ^ (w - l)) (x / 2 ^ (w - l))
+leads-number w l v x h hv hx =
+    let k = w - l in
+    let e : l + (w - l) ≡ w = omega arith in
+    ap (λ (n : ℕ). leads (prefix n v l) (bits n x)) (sym e) ∙ leads-top l k v x ∙ ap₂ eqb (shr-mod l k (rw e hv)) (shr-mod l k (rw e hx))
+
+-- ---- bits after a prefix
+
+bits-after : (l k v : ℕ) → drop l (bits (l + k) v) ≡ bits k v
+unfolding bits
+bits-after zero k v = ap (λ (n : ℕ). bits n v) (zero-add k)
+bits-after (suc l) k v = ap (λ (n : ℕ). drop (suc l) (bits n v)) (suc-add l k) ∙ bits-after l k v
+
+some-digit : (e d r : ℕ) → 0 < e → d < 2 → (eqb d 1 || not (eqb r 0)) ≡ not (eqb (d * e + r) 0)
+some-digit e zero r he hd = ap not (same-eqb r 0 (0 * e + r) 0 (λ q. omega arith) (λ q. omega arith))
+some-digit e (suc zero) r he hd = ap not (sym (ne-eqb (1 * e + r) 0 (λ q. omega arith)))
+some-digit e (suc (suc d)) r he hd = absurd (omega arith)
+
+some-bit : (k v : ℕ) → any (λ b. b) (bits k v) ≡ not (eqb (v % 2 ^ k) 0)
+unfolding any bits
+some-bit zero v = ap not (sym (eq-eqb (v % 1) 0 (mod-one v)))
+some-bit (suc k) v =
+    ap (λ t. eqb (v / 2 ^ k % 2) 1 || t) (some-bit k v)
+    ∙ some-digit (2 ^ k) (v / 2 ^ k % 2) (v % 2 ^ k) (pow-pos k) (mod-lt (v / 2 ^ k) (zero-lt-suc 1))
+    ∙ ap (λ (n : ℕ). not (eqb n 0)) (sym (mod-pow-add v 1 k) ∙ ap (λ (n : ℕ). v % 2 ^ n) (omega arith))
+
+pub stray-number : (w v l : ℕ) → l ≤ w → stray w v l ≡ not (eqb (v % 2 ^ (w - l)) 0)
+unfolding stray
+stray-number w v l h =
+    let e : l + (w - l) ≡ w = omega arith in
+    ap (λ (n : ℕ). any (λ b. b) (drop l (bits n v))) (sym e) ∙ ap (any (λ b. b)) (bits-after l (w - l) v) ∙ some-bit (w - l) v
