@@ -1,15 +1,20 @@
 -- Laws of numbers as bytes: one byte more, how large a number of few bytes can be, and that bytes fix their number.
 -- Assumes nothing.
 use mathlib.Core.Path.{_≡_, refl, sym, ap, _∙_}
+use mathlib.Core.Bool.{Bool, not, _||_, or-false, or-assoc}
 use mathlib.Core.List.{List, [], _∷_, _++_}
 use Prim.Native.Nat.{ℕ, zero, suc, _+_, _*_, _/_, _%_, _^_, _≤_, _<_}
 use native.Mathlib.Nat.{lt-of-lt-of-le, div-add-mod', mod-lt, pow-suc, one-le-pow, mul-assoc, mul-right-comm, add-mul, add-assoc, zero-lt-suc, zero-add}
 use native.Mathlib.Numerals.{add-one}
 use native.Mathlib.Omega.{arith}
+use lib.Dec.{eqb, eqb·suc-zero}
 use lib.ListN.{length, getD, take, drop, length-drop}
 use lib.Seq.{take-suc, getD-drop}
 use lib.Pow.{pow-add, pow-mono}
+use borrow.Author.Tests.{ne-eqb}
+use Rattle.bits.specs.Tests.{any}
 use Rattle.bits.specs.Number.{numberFrom, number, numberAt, bytesOf}
+use Rattle.bits.proofs.TestLaws.{same-eqb}
 
 -- ---- one byte more
 
@@ -65,3 +70,21 @@ number-bytes size v =
     from-bytes size (0 * 256 + v / p) (v % p) (mod-lt v (one-le-pow size 256 (zero-lt-suc 255)))
     ∙ ap (λ (q : ℕ). q * p + v % p) (zero-add (v / p))
     ∙ div-add-mod' v p
+
+-- ---- a number is zero exactly when its bytes are
+
+from-nonzero : (n : ℕ) (bs : List ℕ) → not (eqb (numberFrom n bs) 0) ≡ (not (eqb n 0) || any (λ b. not (eqb b 0)) bs)
+unfolding numberFrom any
+from-nonzero n [] = sym (or-false (not (eqb n 0)))
+from-nonzero n (b ∷ bs) =
+    from-nonzero (n * 256 + b) bs
+    ∙ ap (λ t. t || any (λ x. not (eqb x 0)) bs) (digit n)
+    ∙ or-assoc (not (eqb n 0)) (not (eqb b 0)) (any (λ x. not (eqb x 0)) bs)
+  where
+    digit : (m : ℕ) → not (eqb (m * 256 + b) 0) ≡ (not (eqb m 0) || not (eqb b 0))
+    digit zero = ap not (same-eqb (0 * 256 + b) 0 b 0 (λ e. omega arith) (λ e. omega arith))
+    digit (suc m) = ap not (ne-eqb (suc m * 256 + b) 0 (λ e. omega arith)) ∙ sym (ap (λ t. not t || not (eqb b 0)) (eqb·suc-zero m))
+
+pub number-nonzero : (bs : List ℕ) → not (eqb (number bs) 0) ≡ any (λ b. not (eqb b 0)) bs
+unfolding number
+number-nonzero bs = from-nonzero 0 bs

@@ -6,13 +6,14 @@ use mathlib.Core.Bool.{Bool, true, false, _&&_, _||_, true≢false, false≢true
 use mathlib.Core.List.{List, [], _∷_}
 use mathlib.Core.Option.{Option, none, some}
 use Prim.Native.Nat.{ℕ, zero, suc, _+_, _≤_, _<_}
+use native.Mathlib.Nat.{le-of-suc-le-suc}
 use native.Mathlib.Numerals.{add-one}
 use native.Mathlib.Omega.{arith}
 use lib.Dec.{eqb, ltb}
 use lib.ListN.{length, getD, drop}
 use lib.Seq.{drop-cons}
 use borrow.Author.Tests.{eqb-true, eqb-false, eq-eqb, ne-eqb, ltb-true, ltb-false}
-use Rattle.bits.specs.Tests.{any, all, each, lowest, count}
+use Rattle.bits.specs.Tests.{any, all, upFrom, lowest, count}
 
 -- ---- one test
 
@@ -61,6 +62,13 @@ module _ {A : Type 0} (test : A → Bool) (l : List A) (d : A) (k : ℕ) (inside
   pub any-from : any test (drop k l) ≡ (test (getD l k d) || any test (drop (k + 1) l))
   unfolding any
   any-from = rw (add-one k, drop-cons l k d inside)
+
+-- where no element passes, none passes at a place
+pub none-at : {A : Type 0} (test : A → Bool) (l : List A) (d : A) (k : ℕ) → any test l ≡ false → k < length l → test (getD l k d) ≡ false
+unfolding any
+none-at test [] d k e h = absurd (omega arith)
+none-at test (x ∷ l) d zero e h = or-falses (test x) (any test l) e .0
+none-at test (x ∷ l) d (suc k) e h = none-at test l d k (or-falses (test x) (any test l) e .1) (le-of-suc-le-suc h)
 
 -- ---- the lowest place that passes
 
@@ -121,3 +129,12 @@ module _ (test : ℕ → Bool) where
       step : (b : Bool) (c : ℕ) → c ≤ n → (elim b as (λ _. ℕ) [ true ↦ suc c | false ↦ c ]) ≤ suc n
       step true c h = omega arith
       step false c h = omega arith
+
+-- ---- a test that holds over a run of numbers holds at each
+
+pub all-up : (test : ℕ → Bool) (k n : ℕ) → all test (upFrom k n) ≡ true → (j : ℕ) → k ≤ j → j < k + n → test j ≡ true
+unfolding all upFrom
+all-up test k zero e j low high = absurd (omega arith)
+all-up test k (suc n) e j low high =
+    let b = and-trues (test k) (all test (upFrom (suc k) n)) e in
+    ⊎-elim (λ (q : k ≡ j). rw (← q) (b .0)) (λ (q : k < j). all-up test (suc k) n (b .1) j q (omega arith)) (equal k j low)

@@ -11,12 +11,10 @@ numberFrom n (b ∷ bs) = numberFrom (n * 256 + b) bs
 
 -- the number that bytes say
 unfoldable pub number : List ℕ → ℕ
-unfolding numberFrom
 number bs = numberFrom 0 bs
 
 -- the number of the `size` bytes that start at `at`
 unfoldable pub numberAt : List ℕ → ℕ → ℕ → ℕ
-unfolding number
 numberAt bytes at size = number (take size (drop at bytes))
 
 -- a number written as `size` bytes

@@ -18,7 +18,6 @@ bits (suc w) v = eqb (v / 2 ^ w % 2) 1 ∷ bits w v
 
 -- the prefix v/l at a width: the first l bits of v
 unfoldable pub prefix : ℕ → ℕ → ℕ → Path
-unfolding bits
 prefix w v l = take l (bits w v)
 
 -- the first path is a leading part of the second, an equal one included
@@ -29,7 +28,6 @@ leads (a ∷ p) (b ∷ q) = Bool·beq a b && leads p q
 
 -- a bit of v after the prefix v/l is set
 unfoldable pub stray : ℕ → ℕ → ℕ → Bool
-unfolding bits
 stray w v l = any (λ b. b) (drop l (bits w v))
 
 -- v with the bits after its first l cleared

@@ -1,0 +1,4 @@
+-- The laws of this crate's definitions, for its own proofs and for the crates above.
+pub mod FieldLaws
+pub mod TableLaws
+pub mod SaidLaws

@@ -1,0 +1,10 @@
+-- What the bytes of a rule table and of a header mean, when a table is accepted, and which refusal it gets otherwise.
+-- Read in this order.
+pub mod Field
+pub mod Action
+pub mod Refusal
+pub mod Rule
+pub mod Table
+pub mod Header
+pub mod Match
+pub mod Overlap

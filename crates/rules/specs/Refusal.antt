@@ -1,0 +1,52 @@
+-- What the desk says, in 01's own numbers: the number of each refusal and the values that it carries ("The desk's numbers").
+-- An answer is said as the list of its number and then its values.
+-- Assumes nothing.
+use mathlib.Core.List.{List, [], _∷_, _++_}
+use Prim.Native.Nat.{ℕ, zero, suc}
+use Rattle.bits.specs.Number.{bytesOf}
+use Rattle.rules.specs.declared.Header.{Header}
+use Rattle.rules.specs.declared.Crossing.{Crossing}
+use Rattle.rules.specs.declared.Refusal.{Refusal}
+use Rattle.rules.specs.declared.Refusal.the-variants.{RaggedTable, TooManyRules, LongPrefix, StrayBit, UnknownAction, SpareBytes, ShortArea, NotAHeader, DamagedArea, ShortList, NotAnOrder, ShortOutput, NotAllowed}
+use Rattle.rules.specs.declared.Checked.{Checked}
+use Rattle.rules.specs.declared.Checked.the-variants.{Accepted, Refused}
+use Rattle.rules.specs.declared.Heard as heard
+
+-- the five values of a header, in their order
+abbrev pub values : Header → List ℕ
+values h = h .source ∷ h .destination ∷ h .sport ∷ h .dport ∷ h .protocol ∷ []
+
+-- a header's 13 bytes
+unfoldable pub headerBytes : Header → List ℕ
+headerBytes h = bytesOf 4 (h .source) ++ bytesOf 4 (h .destination) ++ bytesOf 2 (h .sport) ++ bytesOf 2 (h .dport) ++ bytesOf 1 (h .protocol)
+
+unfoldable pub said : Refusal → List ℕ
+said RaggedTable = 1 ∷ []
+said TooManyRules = 2 ∷ []
+said (LongPrefix place) = 3 ∷ place ∷ []
+said (StrayBit place) = 4 ∷ place ∷ []
+said (UnknownAction place) = 5 ∷ place ∷ []
+said (SpareBytes place) = 6 ∷ place ∷ []
+said ShortArea = 7 ∷ []
+said NotAHeader = 8 ∷ []
+said DamagedArea = 9 ∷ []
+said ShortList = 10 ∷ []
+said NotAnOrder = 11 ∷ []
+said ShortOutput = 12 ∷ []
+said (NotAllowed c) = 13 ∷ c .lower ∷ c .higher ∷ headerBytes (c .header)
+
+-- a table or a rule that is accepted is done, with nothing to carry
+unfoldable pub checkedSaid : Checked → List ℕ
+checkedSaid Accepted = 0 ∷ []
+checkedSaid (Refused r) = said r
+
+-- a header that is read carries its five values
+unfoldable pub heardSaid : heard.Heard → List ℕ
+heardSaid (heard.the-variants.Values h) = 0 ∷ values h
+heardSaid (heard.the-variants.Refused r) = said r
+
+-- what two checks say, one after the other: the first that refuses; where neither does, what the second says
+unfoldable pub firstRefusal : List ℕ → List ℕ → List ℕ
+firstRefusal [] b = b
+firstRefusal (zero ∷ vs) b = b
+firstRefusal (suc n ∷ vs) b = suc n ∷ vs
