@@ -13,7 +13,7 @@ use lib.Seq.{take-suc, getD-drop}
 use lib.Pow.{pow-add, pow-mono}
 use borrow.Author.Tests.{ne-eqb}
 use Rattle.bits.specs.Tests.{any}
-use Rattle.bits.specs.Number.{numberFrom, number, numberAt, bytesOf}
+use Rattle.bits.specs.Number.{Bytes, numberFrom, number, numberAt, bytesOf}
 use Rattle.bits.proofs.TestLaws.{same-eqb}
 
 -- ---- one byte more
@@ -42,6 +42,13 @@ byte-more n b i hn hb =
 
 pub byte-room : (n i : ℕ) → n < 2 ^ (8 * i) → i < 4 → n < 2 ^ 24
 byte-room n i hn hi = lt-of-lt-of-le hn (pow-mono {j = 24} (omega arith))
+
+-- a number of bytes that are there
+pub number-small : (bytes : List ℕ) → Bytes bytes → (at size : ℕ) → at + size ≤ length bytes → numberAt bytes at size < 2 ^ (8 * size)
+number-small bytes b at zero h = rw (number-none bytes at) (omega arith)
+number-small bytes b at (suc size) h =
+    let more = number-more bytes at size (omega arith) in
+    rw (← add-one size, ← more) (byte-more (numberAt bytes at size) (getD bytes (at + size) 0) size (number-small bytes b at size (omega arith)) (b (at + size)))
 
 -- ---- bytes fix their number
 

@@ -1,19 +1,19 @@
 -- Laws of paths, over any width: a prefix leads a value exactly when both have the same number above the bits after it,
--- and a stray bit is a remainder that is not zero.
+-- a stray bit is a remainder that is not zero, leading goes on through a third path, and a prefix leads another when it is no longer and leads its value.
 -- Assumes nothing.
 use mathlib.Core.Path.{_≡_, refl, sym, ap, ap₂, _∙_}
-use mathlib.Core.Bool.{Bool, true, false, not, _&&_, _||_, Bool·beq}
+use mathlib.Core.Bool.{Bool, true, false, not, _&&_, _||_, Bool·beq, and-false, false≢true}
 use mathlib.Core.List.{List, [], _∷_}
 use Prim.Native.Nat.{ℕ, zero, suc, _+_, _-_, _*_, _/_, _%_, _^_, _≤_, _<_}
-use native.Mathlib.Nat.{add-comm, suc-add, zero-add, mod-one, mod-lt, zero-lt-suc}
+use native.Mathlib.Nat.{le-of-suc-le-suc, add-comm, suc-add, zero-add, mod-one, mod-lt, zero-lt-suc}
 use native.Mathlib.Omega.{arith}
-use lib.Dec.{eqb}
+use lib.Dec.{leb, eqb, leb·zero, leb·suc-zero, leb·suc-suc}
 use lib.ListN.{take, drop}
 use lib.Pow.{pow-pos, shr-shr, mod-pow-add, shr-mod}
 use borrow.Author.Tests.{eq-eqb, ne-eqb}
 use Rattle.bits.specs.Tests.{any}
 use Rattle.bits.specs.Path.{Path, bits, prefix, leads, stray}
-use Rattle.bits.proofs.TestLaws.{same-eqb}
+use Rattle.bits.proofs.TestLaws.{same-eqb, and-trues, and-both}
 
 -- ---- a prefix leads a value
 
@@ -74,3 +74,53 @@ unfolding stray
 stray-number w v l h =
     let e : l + (w - l) ≡ w = omega arith in
     ap (λ (n : ℕ). any (λ b. b) (drop l (bits n v))) (sym e) ∙ ap (any (λ b. b)) (bits-after l (w - l) v) ∙ some-bit (w - l) v
+
+-- ---- paths that lead each other
+
+beq-same : (a b : Bool) → Bool·beq a b ≡ true → a ≡ b
+beq-same true true e = refl
+beq-same true false e = absurd (false≢true e)
+beq-same false true e = absurd (false≢true e)
+beq-same false false e = refl
+
+beq-self : (a : Bool) → Bool·beq a a ≡ true
+beq-self true = refl
+beq-self false = refl
+
+-- what leads a leading part leads the whole
+pub leads-trans : (p q r : Path) → leads p q ≡ true → leads q r ≡ true → leads p r ≡ true
+unfolding leads
+leads-trans [] q r e f = refl
+leads-trans (a ∷ p) [] r e f = absurd (false≢true e)
+leads-trans (a ∷ p) (b ∷ q) [] e f = absurd (false≢true f)
+leads-trans (a ∷ p) (b ∷ q) (c ∷ r) e f =
+    let x = and-trues (Bool·beq a b) (leads p q) e in
+    let y = and-trues (Bool·beq b c) (leads q r) f in
+    rw (beq-same a b (x .0)) (and-both (Bool·beq b c) (leads p r) (y .0) (leads-trans p q r (x .1) (y .1)))
+
+-- of two leading parts of one path, one leads the other
+pub leads-either : (p q r : Path) → leads p r ≡ true → leads q r ≡ true → (leads p q || leads q p) ≡ true
+unfolding leads
+leads-either [] q r e f = refl
+leads-either (a ∷ p) [] r e f = refl
+leads-either (a ∷ p) (b ∷ q) [] e f = absurd (false≢true e)
+leads-either (a ∷ p) (b ∷ q) (c ∷ r) e f =
+    let x = and-trues (Bool·beq a c) (leads p r) e in
+    let y = and-trues (Bool·beq b c) (leads q r) f in
+    rw (beq-same a c (x .0), beq-same b c (y .0), beq-self c) (leads-either p q r (x .1) (y .1))
+
+and-between : (a b c : Bool) → (a && (b && c)) ≡ (b && (a && c))
+and-between true b c = refl
+and-between false b c = sym (and-false b)
+
+-- a prefix leads another exactly when it is no longer and leads the other's value
+pub leads-prefix : (w v l x m : ℕ) → l ≤ w → leads (prefix w v l) (prefix w x m) ≡ (leb l m && leads (prefix w v l) (bits w x))
+unfolding leads prefix bits
+leads-prefix w v zero x m h = rw leb·zero
+leads-prefix zero v (suc l) x m h = absurd (omega arith)
+leads-prefix (suc w) v (suc l) x zero h = rw leb·suc-zero
+leads-prefix (suc w) v (suc l) x (suc m) h =
+    let same = Bool·beq (eqb (v / 2 ^ w % 2) 1) (eqb (x / 2 ^ w % 2) 1) in
+    ap (λ t. same && t) (leads-prefix w v l x m (le-of-suc-le-suc h))
+    ∙ and-between same (leb l m) (leads (take l (bits w v)) (bits w x))
+    ∙ rw leb·suc-suc

@@ -1,8 +1,12 @@
 -- Numbers as bytes, the highest byte first (01: "Numbers are big-endian").
 -- Assumes nothing.
 use mathlib.Core.List.{List, [], _∷_}
-use Prim.Native.Nat.{ℕ, zero, suc, _+_, _*_, _/_, _%_, _^_}
-use lib.ListN.{take, drop}
+use Prim.Native.Nat.{ℕ, zero, suc, _+_, _*_, _/_, _%_, _^_, _<_}
+use lib.ListN.{getD, take, drop}
+
+-- a list of bytes
+abbrev pub Bytes : List ℕ → Type 0
+Bytes l = (k : ℕ) → getD l k 0 < 256
 
 -- n, with the bytes after it as its lower digits
 unfoldable pub numberFrom : ℕ → List ℕ → ℕ

@@ -2,3 +2,7 @@
 pub mod FieldLaws
 pub mod TableLaws
 pub mod SaidLaws
+pub mod SpanLaws
+pub mod OverlapLaws
+pub mod RuleLaws
+pub mod Determined

@@ -2,7 +2,7 @@
 -- Assumes nothing.
 use mathlib.Core.Path.{_≡_, refl, sym, ap, ap₂, _∙_}
 use mathlib.Core.Logic.{_⊎_, inl, inr, ⊎-elim}
-use mathlib.Core.Bool.{Bool, true, false, not, cond, true≢false}
+use mathlib.Core.Bool.{Bool, true, false, not, cond, _&&_}
 use mathlib.Core.List.{List, [], _∷_}
 use mathlib.Core.Option.{Option, none, some}
 use Prim.Native.Nat.{ℕ, zero, suc, _+_, _*_, _%_, _≤_, _<_}
@@ -12,9 +12,9 @@ use lib.Dec.{eqb, ltb}
 use lib.ListN.{length, getD, take, drop, length-take, length-drop}
 use borrow.Author.Tests.{eqb-true, eqb-false, ltb-false, ltb-true, not-true, not-false, eq-eqb, le-ltb}
 use Rattle.bits.specs.Number.{numberAt}
-use Rattle.bits.specs.Tests.{any, lowest}
+use Rattle.bits.specs.Tests.{all, lowest}
 use Rattle.bits.proofs.NumberLaws.{number-nonzero}
-use Rattle.bits.proofs.TestLaws.{decided, clash, lowest-told, lowest-none, Told, Never}
+use Rattle.bits.proofs.TestLaws.{and-trues, lowest-told, lowest-none, Told, Never}
 use Rattle.rules.specs.declared.Action.{Action}
 use Rattle.rules.specs.declared.Decoded.{Decoded}
 use Rattle.rules.specs.declared.Decoded.the-variants.{Known, Unknown}
@@ -45,6 +45,43 @@ module _ (place : ℕ) (bytes : List ℕ) where
     pub said-done : spareBytes bytes ≡ false → ruleSaid place bytes ≡ 0 ∷ []
     unfolding ruleSaid fault firstFailed ruleTests unknownAction isUnknown
     said-done h = rw (short, clean, known, h)
+
+-- ---- a faultless record passes each test
+
+pub record Faultless (bytes : List ℕ) : Type 0 where
+  pub short : longPrefix bytes ≡ false
+  pub clean : strayBit bytes ≡ false
+  pub known : unknownAction bytes ≡ false
+  pub spare : spareBytes bytes ≡ false
+
+none-failed : (ts : List Test) (bytes : List ℕ) → all (λ (t : Test). ltb 0 (t .number)) ts ≡ true → firstFailed ts bytes ≡ 0
+    → all (λ (t : Test). not (t .fails bytes)) ts ≡ true
+unfolding firstFailed all
+none-failed [] bytes positive e = refl
+none-failed (t ∷ ts) bytes positive e =
+    let above = and-trues (ltb 0 (t .number)) (all (λ (u : Test). ltb 0 (u .number)) ts) positive in
+    go (t .fails bytes) e (above .0) (λ q. none-failed ts bytes (above .1) q)
+  where
+    rest : Bool
+    rest = all (λ (u : Test). not (u .fails bytes)) ts
+
+    go : (failed : Bool) → cond failed (t .number) (firstFailed ts bytes) ≡ 0 → ltb 0 (t .number) ≡ true → (firstFailed ts bytes ≡ 0 → rest ≡ true) → (not failed && rest) ≡ true
+    go true q above more = absurd (omega (arith, ltb-true 0 (t .number) above))
+    go false q above more = more q
+
+pub faultless : (bytes : List ℕ) → fault bytes ≡ 0 → Faultless bytes
+unfolding fault ruleTests all
+faultless bytes e =
+    let a = and-trues _ _ (none-failed ruleTests bytes refl e) in
+    let b = and-trues _ _ (a .1) in
+    let d = and-trues _ _ (b .1) in
+    let f = and-trues _ _ (d .1) in
+    record {
+      short = not-true _ (a .0);
+      clean = not-true _ (b .0);
+      known = not-true _ (d .0);
+      spare = not-true _ (f .0);
+    }
 
 -- the four spare bytes as one number
 pub spare-number : (bytes : List ℕ) → not (eqb (numberAt bytes 20 4) 0) ≡ spareBytes bytes

@@ -2,7 +2,7 @@
 -- A header is the list of its values, as in `headerValues`.
 -- Assumes nothing.
 use mathlib.Core.Bool.{Bool, not, _&&_}
-use mathlib.Core.List.{List, []}
+use mathlib.Core.List.{List, [], _∷_}
 use mathlib.Core.Option.{Option, none, some}
 use Prim.Native.Nat.{ℕ, _*_, _/_}
 use lib.ListN.{length, getD, take, drop}
@@ -15,10 +15,14 @@ use Rattle.rules.specs.Rule.{Span, has, Rule}
 unfoldable pub matches : List ℕ → Rule → Bool
 matches header r = each has (r .spans) header
 
--- the rule at a place; past the last stands one that matches no header
-abbrev pub noRule : Rule
-noRule = record { spans = []; paths = []; action = Unknown }
+-- a span that has no value, and a rule that matches nothing: what stands past the last
+abbrev pub nowhere : Span
+nowhere = record { low = 1; high = 0 }
 
+abbrev pub noRule : Rule
+noRule = record { spans = nowhere ∷ []; paths = []; action = Unknown }
+
+-- the rule at a place
 abbrev pub ruleAt : List Rule → ℕ → Rule
 ruleAt rules place = getD rules place noRule
 
@@ -30,7 +34,7 @@ firstMatch rules header = lowest (λ place. matches header (ruleAt rules place))
 
 -- the rule has the header's value in field f
 unfoldable pub matchesIn : List ℕ → ℕ → Rule → Bool
-matchesIn header f r = has (getD (r .spans) f (record { low = 1; high = 0 })) (getD header f 0)
+matchesIn header f r = has (getD (r .spans) f nowhere) (getD header f 0)
 
 -- the rules of a block of `size` places
 unfoldable pub blockOf : ℕ → List Rule → ℕ → List Rule

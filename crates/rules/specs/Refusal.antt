@@ -3,11 +3,14 @@
 -- Assumes nothing.
 use mathlib.Core.List.{List, [], _∷_, _++_}
 use Prim.Native.Nat.{ℕ, zero, suc}
+use lib.ListN.{getD}
 use Rattle.bits.specs.Number.{bytesOf}
 use Rattle.rules.specs.declared.Header.{Header}
 use Rattle.rules.specs.declared.Crossing.{Crossing}
 use Rattle.rules.specs.declared.Refusal.{Refusal}
 use Rattle.rules.specs.declared.Refusal.the-variants.{RaggedTable, TooManyRules, LongPrefix, StrayBit, UnknownAction, SpareBytes, ShortArea, NotAHeader, DamagedArea, ShortList, NotAnOrder, ShortOutput, NotAllowed}
+use Rattle.rules.specs.declared.numbers.Place.{Place}
+use Rattle.rules.specs.declared.numbers.Place.the-variants.{At, Nowhere}
 use Rattle.rules.specs.declared.Checked.{Checked}
 use Rattle.rules.specs.declared.Checked.the-variants.{Accepted, Refused}
 use Rattle.rules.specs.declared.Heard as heard
@@ -34,6 +37,20 @@ said ShortList = 10 ∷ []
 said NotAnOrder = 11 ∷ []
 said ShortOutput = 12 ∷ []
 said (NotAllowed c) = 13 ∷ c .lower ∷ c .higher ∷ headerBytes (c .header)
+
+-- the number alone
+unfoldable pub numberOf : Refusal → ℕ
+numberOf r = getD (said r) 0 0
+
+-- the one value of a refusal that carries a place
+abbrev placed : List ℕ → Place
+placed [] = Nowhere
+placed (n ∷ []) = Nowhere
+placed (n ∷ place ∷ []) = At place
+placed (n ∷ place ∷ more ∷ vs) = Nowhere
+
+unfoldable pub placeOf : Refusal → Place
+placeOf r = placed (said r)
 
 -- a table or a rule that is accepted is done, with nothing to carry
 unfoldable pub checkedSaid : Checked → List ℕ

@@ -3,6 +3,7 @@
 mod check;
 mod fields;
 mod headers;
+mod numbers;
 
 pub use check::check_rule;
 pub use check::check_table;
@@ -12,6 +13,9 @@ pub use fields::length_of;
 pub use fields::value_of;
 pub use fields::width_of;
 pub use headers::read_header;
+pub use numbers::Place;
+pub use numbers::number_of;
+pub use numbers::place_of;
 
 pub const RECORD_BYTES: usize = 24;
 

@@ -1,0 +1,89 @@
+-- Laws of tests over whole lists. A test that holds at each place of two lists: one induction over three lists serves all.
+-- Assumes nothing.
+use mathlib.Core.Path.{_≡_, refl, ap, ap₂}
+use mathlib.Core.Bool.{Bool, true, _&&_, false≢true}
+use mathlib.Core.List.{List, [], _∷_, map, zipWith}
+use Prim.Native.Nat.{ℕ, zero, suc, _<_}
+use native.Mathlib.Nat.{zero-lt-suc}
+use native.Mathlib.Omega.{arith}
+use lib.ListN.{length, getD}
+use Rattle.bits.specs.Tests.{all, each}
+use Rattle.bits.proofs.TestLaws.{and-trues, and-both}
+
+-- the other way round
+pub each-flip : {A B : Type 0} (p : A → B → Bool) (xs : List A) (ys : List B) → each p xs ys ≡ each (λ y x. p x y) ys xs
+unfolding each
+each-flip p [] [] = refl
+each-flip p [] (y ∷ ys) = refl
+each-flip p (x ∷ xs) [] = refl
+each-flip p (x ∷ xs) (y ∷ ys) = ap (λ t. p x y && t) (each-flip p xs ys)
+
+-- two lists that pass against a third: what holds at the end, and goes on through one more place of the three, holds of them
+module _ {A B C : Type 0} (p : A → C → Bool) (q : B → C → Bool) (Holds : List A → List B → List C → Type 0)
+    (end : Holds [] [] [])
+    (more : (x : A) (y : B) (z : C) (xs : List A) (ys : List B) (zs : List C)
+    → p x z ≡ true → q y z ≡ true → Holds xs ys zs → Holds (x ∷ xs) (y ∷ ys) (z ∷ zs)) where
+  pub each-three : (xs : List A) (ys : List B) (zs : List C) → each p xs zs ≡ true → each q ys zs ≡ true → Holds xs ys zs
+  unfolding each
+  each-three [] [] [] e f = end
+  each-three [] (y ∷ ys) [] e f = absurd (false≢true f)
+  each-three (x ∷ xs) ys [] e f = absurd (false≢true e)
+  each-three [] ys (z ∷ zs) e f = absurd (false≢true e)
+  each-three (x ∷ xs) [] (z ∷ zs) e f = absurd (false≢true f)
+  each-three (x ∷ xs) (y ∷ ys) (z ∷ zs) e f =
+      let a = and-trues (p x z) (each p xs zs) e in
+      let b = and-trues (q y z) (each q ys zs) f in
+      more x y z xs ys zs (a .0) (b .0) (each-three xs ys zs (a .1) (b .1))
+
+-- so the two pass against each other, where a law says so of one place
+module _ {A B C : Type 0} (p : A → C → Bool) (q : B → C → Bool) (r : A → B → Bool)
+    (law : (x : A) (y : B) (z : C) → p x z ≡ true → q y z ≡ true → r x y ≡ true) where
+  pub each-both : (xs : List A) (ys : List B) (zs : List C) → each p xs zs ≡ true → each q ys zs ≡ true → each r xs ys ≡ true
+  unfolding each
+  each-both =
+      each-three p q (λ xs ys zs. each r xs ys ≡ true) refl
+      (λ x y z xs ys zs a b rest. and-both (r x y) (each r xs ys) (law x y z a b) rest)
+
+-- and what the two make together passes against the third
+module _ {A B C D : Type 0} (p : A → C → Bool) (q : B → C → Bool) (f : A → B → D) (r : D → C → Bool)
+    (law : (x : A) (y : B) (z : C) → p x z ≡ true → q y z ≡ true → r (f x y) z ≡ true) where
+  pub each-made : (xs : List A) (ys : List B) (zs : List C) → each p xs zs ≡ true → each q ys zs ≡ true → each r (zipWith f xs ys) zs ≡ true
+  unfolding each zipWith
+  each-made =
+      each-three p q (λ xs ys zs. each r (zipWith f xs ys) zs ≡ true) refl
+      (λ x y z xs ys zs a b rest. and-both (r (f x y) z) (each r (zipWith f xs ys) zs) (law x y z a b) rest)
+
+-- two lists that pass against each other: each of them passes against what they make together
+module _ {A B D : Type 0} (t : A → B → Bool) (f : A → B → D) (p : A → D → Bool) (q : B → D → Bool)
+    (law : (x : A) (y : B) → t x y ≡ true → (p x (f x y) ≡ true) × (q y (f x y) ≡ true)) where
+  pub each-makes : (xs : List A) (ys : List B) → each t xs ys ≡ true → (each p xs (zipWith f xs ys) ≡ true) × (each q ys (zipWith f xs ys) ≡ true)
+  unfolding each zipWith
+  each-makes [] [] e = (refl, refl)
+  each-makes [] (y ∷ ys) e = absurd (false≢true e)
+  each-makes (x ∷ xs) [] e = absurd (false≢true e)
+  each-makes (x ∷ xs) (y ∷ ys) e =
+      let b = and-trues (t x y) (each t xs ys) e in
+      let here = law x y (b .0) in
+      let rest = each-makes xs ys (b .1) in
+      let z = f x y in
+      let zs = zipWith f xs ys in
+      (and-both (p x z) (each p xs zs) (here .0) (rest .0), and-both (q y z) (each q ys zs) (here .1) (rest .1))
+
+-- ---- lists made from one list
+
+module _ {A B : Type 0} where
+  pub getD-map : (g : A → B) (l : List A) (k : ℕ) (d : B) (e : A) → k < length l → getD (map g l) k d ≡ g (getD l k e)
+  getD-map g [] k d e h = absurd (omega arith)
+  getD-map g (x ∷ l) zero d e h = refl
+  getD-map g (x ∷ l) (suc k) d e h = getD-map g l k d e (omega arith)
+
+pub each-maps : {A B C : Type 0} (p : B → C → Bool) (g : A → B) (v : A → C) (l : List A) → each p (map g l) (map v l) ≡ all (λ x. p (g x) (v x)) l
+unfolding each all
+each-maps p g v [] = refl
+each-maps p g v (x ∷ l) = ap (λ t. p (g x) (v x) && t) (each-maps p g v l)
+
+-- two tests that agree at each place of a list agree on the list
+pub all-same : {A : Type 0} (t u : A → Bool) (l : List A) (d : A) → ((k : ℕ) → k < length l → t (getD l k d) ≡ u (getD l k d)) → all t l ≡ all u l
+unfolding all
+all-same t u [] d e = refl
+all-same t u (x ∷ l) d e = ap₂ (λ a b. a && b) (e 0 (zero-lt-suc (length l))) (all-same t u l d (λ k h. e (suc k) (omega arith)))

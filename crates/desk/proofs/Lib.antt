@@ -1,0 +1,3 @@
+-- The promises of the desk, proved.
+pub mod Determined
+pub mod WorkedOut

@@ -1,0 +1,3 @@
+-- The desk on one page: what each call answers, and 01's worked examples.
+pub mod Show
+pub mod Worked

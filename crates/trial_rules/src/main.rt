@@ -1,0 +1,174 @@
+// Runs the record rules on small tables and headers and prints what they answer, a line each.
+use libc::STDOUT_FILENO;
+use rules::Checked;
+use rules::Heard;
+use rules::Place;
+use rules::Refusal;
+
+fn main() {
+    lengths();
+    sizes();
+    single_faults();
+    faults_together();
+    headers();
+    shown_rules();
+}
+
+// Each field's largest prefix length, and one more.
+fn lengths() {
+    rule_with(b"source address length 32", 13, 32);
+    rule_with(b"source address length 33", 13, 33);
+    rule_with(b"destination address length 32", 14, 32);
+    rule_with(b"destination address length 33", 14, 33);
+    rule_with(b"source port length 16", 15, 16);
+    rule_with(b"source port length 17", 15, 17);
+    rule_with(b"destination port length 16", 16, 16);
+    rule_with(b"destination port length 17", 16, 17);
+    rule_with(b"protocol length 8", 17, 8);
+    rule_with(b"protocol length 9", 17, 9);
+}
+
+// Tables by their length in bytes.
+fn sizes() {
+    zeros(b"no rule", 0);
+    zeros(b"23 bytes", 23);
+    zeros(b"24 bytes", 24);
+    zeros(b"25 bytes", 25);
+    zeros(b"47 bytes", 47);
+    zeros(b"256 rules", 6144);
+    zeros(b"257 rules", 6168);
+    zeros(b"256 rules and a byte", 6145);
+    zeros(b"257 rules and a byte", 6169);
+}
+
+// Each of 3 to 6 alone.
+fn single_faults() {
+    rule_with(b"length 255", 13, 255);
+    rule_with(b"a bit after the prefix", 3, 1);
+    rule_with(b"kind 1", 18, 1);
+    rule_with(b"kind 2", 18, 2);
+    rule_with(b"kind 255", 18, 255);
+    rule_with(b"hold with a feed", 19, 1);
+    rule_with(b"a spare byte set", 20, 1);
+    rule_with(b"the last byte set", 23, 128);
+}
+
+// Two faults in one rule, and in two rules.
+fn faults_together() {
+    rule_with_two(b"3 and 4", 13, 33, 8, 1);
+    rule_with_two(b"4 and 5", 12, 1, 18, 9);
+    rule_with_two(b"5 and 6", 18, 2, 22, 1);
+    rule_with_two(b"3 and 6", 17, 9, 20, 1);
+    two_places(b"6 at place 1, 3 at place 2", 44, 1, 61, 33);
+    two_places(b"5 at place 0, 4 at place 1", 18, 2, 24, 1);
+    two_places(b"4 at place 2 alone", 48, 1, 48, 1);
+}
+
+// Header lengths.
+fn headers() {
+    header(b"header of 12 bytes", 12);
+    header(b"header of 13 bytes", 13);
+    header(b"header of 14 bytes", 14);
+    header(b"header of 0 bytes", 0);
+}
+
+// Rules by place: a whole record, past the last, and in a table that is no multiple of 24.
+fn shown_rules() {
+    show(b"place 0 of one rule", 24, 0);
+    show(b"place 1 of one rule", 24, 1);
+    show(b"place 1 of 47 bytes", 47, 1);
+    show(b"place 1 of 48 bytes", 48, 1);
+    show(b"place 256 of 257 rules", 6168, 256);
+    show(b"the largest place", 24, 18446744073709551615);
+}
+
+// A rule of zeros holds everything; here with one other byte.
+fn rule_with(name: &[u8], at: usize, byte: u8) {
+    rule_with_two(name, at, byte, at, byte);
+}
+
+fn rule_with_two(name: &[u8], at: usize, byte: u8, also_at: usize, also: u8) {
+    let mut rule = [0u8; 24];
+    put(&mut rule, at, byte);
+    put(&mut rule, also_at, also);
+    report(name, &rule);
+}
+
+// Three rules of zeros with two other bytes.
+fn two_places(name: &[u8], at: usize, byte: u8, also_at: usize, also: u8) {
+    let mut table = [0u8; 72];
+    put(&mut table, at, byte);
+    put(&mut table, also_at, also);
+    report(name, &table);
+}
+
+fn put(bytes: &mut [u8], at: usize, byte: u8) {
+    if at < bytes.len() {
+        bytes[at] = byte;
+    }
+}
+
+fn zeros(name: &[u8], length: usize) {
+    let bytes = io::large_buffer();
+    report(name, front(&bytes, length));
+}
+
+fn header(name: &[u8], length: usize) {
+    say(name);
+    let bytes = [7u8; 14];
+    match rules::read_header(front(&bytes, length)) {
+        Heard::Values(values) => {
+            say(b": ");
+            io::print_decimal(STDOUT_FILENO, values.source as u64);
+            say(b" to port ");
+            io::print_decimal(STDOUT_FILENO, values.dport as u64);
+            say(b", protocol ");
+            io::print_decimal(STDOUT_FILENO, values.protocol as u64);
+            say(b"\n");
+        }
+        Heard::Refused(refusal) => refused(refusal),
+    }
+}
+
+fn show(name: &[u8], length: usize, place: usize) {
+    let bytes = io::large_buffer();
+    let part = desk::show(front(&bytes, length), place);
+    say(name);
+    say(b": ");
+    io::print_decimal(STDOUT_FILENO, part.len() as u64);
+    say(b" bytes\n");
+}
+
+// The first `length` bytes, or all where there are fewer.
+fn front(bytes: &[u8], length: usize) -> &[u8] {
+    if length <= bytes.len() {
+        &bytes[0..length]
+    } else {
+        bytes
+    }
+}
+
+fn report(name: &[u8], table: &[u8]) {
+    say(name);
+    match rules::check_table(table) {
+        Checked::Accepted => say(b": accepted\n"),
+        Checked::Refused(refusal) => refused(refusal),
+    }
+}
+
+fn refused(refusal: Refusal) {
+    say(b": refused ");
+    io::print_decimal(STDOUT_FILENO, rules::number_of(refusal));
+    match rules::place_of(refusal) {
+        Place::At(place) => {
+            say(b" at ");
+            io::print_decimal(STDOUT_FILENO, place as u64);
+        }
+        Place::Nowhere => {}
+    }
+    say(b"\n");
+}
+
+fn say(text: &[u8]) {
+    io::write_all(STDOUT_FILENO, text);
+}
