@@ -2,4 +2,5 @@
 pub mod Number
 pub mod Path
 pub mod Mask
+pub mod Word
 pub mod Tests

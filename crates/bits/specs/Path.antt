@@ -33,3 +33,15 @@ stray w v l = any (λ b. b) (drop l (bits w v))
 -- v with the bits after its first l cleared
 abbrev pub cut : ℕ → ℕ → ℕ → ℕ
 cut w v l = v / 2 ^ (w - l) * 2 ^ (w - l)
+
+unfoldable pub samePath : Path → Path → Bool
+samePath [] [] = true
+samePath [] (b ∷ q) = false
+samePath (a ∷ p) [] = false
+samePath (a ∷ p) (b ∷ q) = Bool·beq a b && samePath p q
+
+-- the length of the longest leading part that two paths have in common
+unfoldable pub common : Path → Path → ℕ
+common [] q = 0
+common (a ∷ p) [] = 0
+common (a ∷ p) (b ∷ q) = elim (Bool·beq a b) [ true ↦ suc (common p q) | false ↦ 0 ]

@@ -2,8 +2,12 @@
 -- Assumes nothing.
 use mathlib.Core.Path.{_≡_}
 use mathlib.Core.List.{List, [], _∷_, _++_, map}
-use Prim.Native.Nat.{ℕ}
-use Rattle.rules.specs.Table.{verdict}
+use Prim.Native.Nat.{ℕ, _*_}
+use lib.ListN.{take, drop}
+use Rattle.rules.specs.Table.{rulesOf, verdict}
+use Rattle.index.specs.Shape.{width, deskShape}
+use Rattle.index.specs.Image.{image}
+use Rattle.index.specs.Need.{need}
 
 -- ---- the six rules of 001, Fig. 1: source and destination address carry the two fields, all deliver
 
@@ -43,6 +47,10 @@ portOfIcmp = 0 ∷ 0 ∷ 0 ∷ 0 ∷ 0 ∷ 0 ∷ 0 ∷ 0 ∷ 0 ∷ 0 ∷ 0 ∷ 8
 abbrev unknownThird : List ℕ
 unknownThird = R0 ++ R1 ++ R2 ++ twoFields 224 3 224 3 2 100 ++ R4 ++ R5
 
+-- record n of a table's index
+abbrev recordIn : List ℕ → ℕ → List ℕ
+recordIn table n = take (width deskShape) (drop (n * width deskShape) (image deskShape (rulesOf table)))
+
 -- ---- the table
 
 pub record Example : Type 0 where
@@ -57,7 +65,11 @@ example n g t = record { k = n; given = g; told = t }
 
 abbrev pub examples : List Example
 examples =
-    example 11 (verdict portOfIcmp) (0 ∷ [])
+    example 1 (need deskShape (rulesOf sixRules) ∷ []) (198 ∷ [])
+    ∷ example 2 (need deskShape (rulesOf []) ∷ []) (55 ∷ [])
+    ∷ example 3 (recordIn sixRules 0) (5 ∷ 9 ∷ 1 ∷ 32 ∷ 0 ∷ 0 ∷ 0 ∷ 0 ∷ 0 ∷ 0 ∷ 0 ∷ [])
+    ∷ example 4 (recordIn sixRules 8) (0 ∷ 0 ∷ 1 ∷ 35 ∷ 0 ∷ 0 ∷ 0 ∷ 0 ∷ 0 ∷ 0 ∷ 0 ∷ [])
+    ∷ example 11 (verdict portOfIcmp) (0 ∷ [])
     ∷ example 12 (verdict unknownThird) (5 ∷ 3 ∷ [])
     ∷ []
 
