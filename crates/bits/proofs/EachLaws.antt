@@ -1,14 +1,15 @@
 -- Laws of tests over whole lists. A test that holds at each place of two lists: one induction over three lists serves all.
 -- Assumes nothing.
 use mathlib.Core.Path.{_≡_, refl, ap, ap₂}
+use mathlib.Core.Logic.{⊎-elim}
 use mathlib.Core.Bool.{Bool, true, _&&_, false≢true}
 use mathlib.Core.List.{List, [], _∷_, map, zipWith}
-use Prim.Native.Nat.{ℕ, zero, suc, _<_}
-use native.Mathlib.Nat.{zero-lt-suc}
+use Prim.Native.Nat.{ℕ, zero, suc, _+_, _<_}
+use native.Mathlib.Nat.{zero-lt-suc, le-of-suc-le-suc}
 use native.Mathlib.Omega.{arith}
 use lib.ListN.{length, getD}
-use Rattle.bits.specs.Tests.{all, each}
-use Rattle.bits.proofs.TestLaws.{and-trues, and-both}
+use Rattle.bits.specs.Tests.{any, all, each, upFrom}
+use Rattle.bits.proofs.TestLaws.{and-trues, and-both, or-trues}
 
 -- the other way round
 pub each-flip : {A B : Type 0} (p : A → B → Bool) (xs : List A) (ys : List B) → each p xs ys ≡ each (λ y x. p x y) ys xs
@@ -87,3 +88,31 @@ pub all-same : {A : Type 0} (t u : A → Bool) (l : List A) (d : A) → ((k : �
 unfolding all
 all-same t u [] d e = refl
 all-same t u (x ∷ l) d e = ap₂ (λ a b. a && b) (e 0 (zero-lt-suc (length l))) (all-same t u l d (λ k h. e (suc k) (omega arith)))
+
+-- where h is f after g at every number below n, it is so at a list of such numbers
+pub map-along : {A : Type 0} (f h : ℕ → A) (g : ℕ → ℕ) (n : ℕ) (l : List ℕ) → ((k : ℕ) → k < n → h k ≡ f (g k)) → ((k : ℕ) → k < length l → getD l k 0 < n)
+    → map h l ≡ map f (map g l)
+map-along f h g n [] law below = refl
+map-along f h g n (x ∷ l) law below =
+    ap₂ _∷_ (law x (below 0 (omega arith))) (map-along f h g n l law (λ k s. below (suc k) (omega arith)))
+
+pub up-size : (k n : ℕ) → length (upFrom k n) ≡ n
+unfolding upFrom
+up-size k zero = refl
+up-size k (suc n) = ap suc (up-size (suc k) n)
+
+pub up-at : (k n i d : ℕ) → i < n → getD (upFrom k n) i d ≡ k + i
+unfolding upFrom
+up-at k zero i d h = absurd (omega arith)
+up-at k (suc n) zero d h = omega arith
+up-at k (suc n) (suc i) d h = omega (arith, up-at (suc k) n i d (le-of-suc-le-suc h))
+
+-- where some element passes, one passes at a place
+pub some-at : {A : Type 0} (test : A → Bool) (l : List A) (d : A) → any test l ≡ true → (k : ℕ) × (k < length l) × (test (getD l k d) ≡ true)
+unfolding any
+some-at test [] d e = absurd (false≢true e)
+some-at test (x ∷ l) d e =
+    ⊎-elim
+    (λ here. (0, omega arith, here))
+    (λ later. let r = some-at test l d later in (suc (r .0), omega arith, r .2))
+    (or-trues (test x) (any test l) e)

@@ -56,6 +56,13 @@ less a b = ⊎-elim (λ e. inl (ltb-true a b e)) (λ e. inr (ltb-false a b e)) (
 pub equal : (a b : ℕ) → a ≤ b → (a ≡ b) ⊎ (a < b)
 equal a b l = ⊎-elim (λ h. inr h) (λ h. inl (omega arith)) (less a b)
 
+pub refuted : (b : Bool) → (b ≡ true → ⊥) → b ≡ false
+refuted true no-way = absurd (no-way refl)
+refuted false no-way = refl
+
+pub three : (a b : ℕ) → (a < b) ⊎ (a ≡ b) ⊎ (b < a)
+three a b = ⊎-elim (λ h. inl h) (λ h. inr (⊎-elim (λ (e : b ≡ a). inl (sym e)) (λ g. inr g) (equal b a h))) (less a b)
+
 -- ---- what is left of a list, from a place on
 
 module _ {A : Type 0} (test : A → Bool) (l : List A) (d : A) (k : ℕ) (inside : k < length l) where

@@ -45,3 +45,7 @@ unfoldable pub common : Path → Path → ℕ
 common [] q = 0
 common (a ∷ p) [] = 0
 common (a ∷ p) (b ∷ q) = elim (Bool·beq a b) [ true ↦ suc (common p q) | false ↦ 0 ]
+
+-- bit j of v at width w, counted from the top, as a number
+abbrev pub bitOf : ℕ → ℕ → ℕ → ℕ
+bitOf w v j = v / 2 ^ (w - 1 - j) % 2

@@ -2,10 +2,10 @@
 // Every function serves the widths 8, 16 and 32 alike: a value of `width` bits stands in the low
 // bits of a u32, and its prefix of `len` bits is the top ones of those.
 ghost use mathlib.Core.Path.{_≡_};
-ghost use Prim.Native.Nat.{_+_, _*_, _^_, _≤_, _<_};
+ghost use Prim.Native.Nat.{_+_, _*_, _^_, _≤_, _<_, min};
 ghost use lib.ListN.{length};
 ghost use Rattle.bits.specs.Number.{numberAt};
-ghost use Rattle.bits.specs.Path.{bits, prefix, leads, stray, cut};
+ghost use Rattle.bits.specs.Path.{bits, prefix, leads, stray, cut, bitOf, common};
 ghost use Rattle.bits.specs.Mask.{maskOf};
 
 const MASKS: [u32; 33] = [
@@ -93,4 +93,32 @@ pub fn is_stray(value: u32, len: usize, width: usize) -> bool
     ensures { λ r. ⌜ r ≡ stray width value len ⌝ }
 {
     leading(value, len, width) != value
+}
+
+// Bit j of the value, from the top of its width.
+pub fn bit_of(value: u32, width: usize, j: usize) -> usize
+    requires { ⌜ (j < width) × (width ≤ 32) ⌝ }
+    ensures { λ r. ⌜ r ≡ bitOf width value j ⌝ }
+{
+    ((value >> (width - 1 - j)) % 2) as usize
+}
+
+fn least(a: usize, b: usize) -> usize
+    ensures { λ r. ⌜ r ≡ min a b ⌝ }
+{
+    if a < b { a } else { b }
+}
+
+// The length of the longest leading part that two prefixes have in common.
+pub fn common_leading(a: u32, len_a: usize, b: u32, len_b: usize, width: usize) -> usize
+    requires { ⌜ («len_a» ≤ width) × («len_b» ≤ width) × (width ≤ 32) × (a < 2 ^ width) × (b < 2 ^ width) ⌝ }
+    ensures { λ r. ⌜ r ≡ common (prefix width a «len_a») (prefix width b «len_b») ⌝ }
+{
+    let most = least(len_a, len_b);
+    for n in 0..most {
+        if bit_of(a, width, n) != bit_of(b, width, n) {
+            return n;
+        }
+    }
+    most
 }

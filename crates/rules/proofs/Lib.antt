@@ -6,3 +6,5 @@ pub mod SpanLaws
 pub mod OverlapLaws
 pub mod RuleLaws
 pub mod Determined
+pub mod ActionLaws
+pub mod MatchLaws

@@ -132,10 +132,10 @@ rules-more table n = rw (add-one n) (go (lowest (faulty table) n) (lowest-told (
 
 -- ---- accepted tables
 
--- whole records, not too many, and none at fault
 number-apart : (m n : ℕ) → (m ≡ n → ⊥) → {vs ws : List ℕ} → m ∷ vs ≡ n ∷ ws → ⊥
 number-apart m n apart e = apart (ap (λ (l : List ℕ). getD l 0 0) e)
 
+-- whole records, not too many, and none at fault
 pub record Sound (table : List ℕ) : Type 0 where
   pub whole : length table % recordSize ≡ 0
   pub few : ruleCount table ≤ mostRules

@@ -1,7 +1,7 @@
 -- Two rules against each other: what they share, and whether one covers the other.
 -- Assumes nothing.
 use mathlib.Core.Bool.{Bool, _&&_}
-use mathlib.Core.List.{List, [], _∷_, zipWith}
+use mathlib.Core.List.{List, zipWith}
 use Prim.Native.Nat.{ℕ, max, min}
 use lib.Dec.{leb}
 use Rattle.bits.specs.Tests.{each}

@@ -1,0 +1,7 @@
+-- The laws of this crate's definitions, for its own proofs and for the crates above.
+pub mod TriangleLaws
+pub mod PairLaws
+pub mod OrderLaws
+pub mod JudgeLaws
+pub mod MoveLaws
+pub mod TableMoves

@@ -1,0 +1,47 @@
+-- The rules of a table by place, and the first that matches a header.
+-- Assumes nothing.
+use mathlib.Core.Path.{_≡_, ap, _∙_}
+use mathlib.Core.Bool.{Bool}
+use mathlib.Core.List.{List}
+use mathlib.Core.Option.{some}
+use Prim.Native.Nat.{ℕ, _<_}
+use native.Mathlib.Omega.{arith}
+use lib.ListN.{length, length-map}
+use Rattle.bits.specs.Tests.{upFrom}
+use Rattle.bits.proofs.TestLaws.{Lowest, Told, lowest-told, lowest-some}
+use Rattle.bits.proofs.EachLaws.{getD-map, up-size, up-at}
+use Rattle.rules.specs.Rule.{Rule, ruleOf}
+use Rattle.rules.specs.Match.{matches, ruleAt, noRule, firstMatch}
+use Rattle.rules.specs.Table.{ruleCount, recordAt, rulesOf}
+
+-- ---- the rules of a table
+
+pub rules-size : (table : List ℕ) → length (rulesOf table) ≡ ruleCount table
+unfolding rulesOf
+rules-size table = length-map (upFrom 0 (ruleCount table)) (λ place. ruleOf (recordAt table place)) ∙ up-size 0 (ruleCount table)
+
+pub rules-at : (table : List ℕ) (place : ℕ) → place < ruleCount table → ruleAt (rulesOf table) place ≡ ruleOf (recordAt table place)
+unfolding rulesOf
+rules-at table place h =
+    let n = ruleCount table in
+    getD-map (λ k. ruleOf (recordAt table k)) (upFrom 0 n) place noRule 0 (rw (up-size 0 n) h)
+    ∙ ap (λ (k : ℕ). ruleOf (recordAt table k)) (omega (arith, up-at 0 n place 0 h))
+
+-- ---- the first match
+
+module _ (rules : List Rule) (h : List ℕ) where
+  -- the rule at a place matches the header
+  abbrev pub hit : ℕ → Bool
+  hit place = matches h (ruleAt rules place)
+
+  -- it is the first that does
+  abbrev pub First : ℕ → Type 0
+  First place = Lowest hit (length rules) place
+
+  pub match-told : Told hit (length rules) (firstMatch rules h)
+  unfolding firstMatch
+  match-told = lowest-told hit (length rules)
+
+  pub first-match : (place : ℕ) → First place → firstMatch rules h ≡ some place
+  unfolding firstMatch
+  first-match place f = lowest-some hit (length rules) place f
