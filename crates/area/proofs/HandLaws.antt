@@ -136,12 +136,12 @@ pub record Forest (a : List ℕ) (n : ℕ) : Type 0 where
   pub one : (k b j c : ℕ) → k < n → b < 2 → j < n → c < 2 → 0 < childWord a k b → childWord a k b ≡ childWord a j c → (k ≡ j) × (b ≡ c)
 
 module _ (a : List ℕ) (n : ℕ) (g : Forest a n) where
-  sweep-kids : (j r b : ℕ) → b < 2 → childWord (handed j a) r b ≡ childWord a r b
+  pub sweep-kids : (j r b : ℕ) → b < 2 → childWord (handed j a) r b ≡ childWord a r b
   unfolding handed upto
   sweep-kids zero r b hb = refl
   sweep-kids (suc j) r b hb = child-kids j 1 (toChild j 0 (handed j a)) r b hb ∙ child-kids j 0 (handed j a) r b hb ∙ sweep-kids j r b hb
 
-  sweep-length : (j : ℕ) → length (handed j a) ≡ length a
+  pub sweep-length : (j : ℕ) → length (handed j a) ≡ length a
   unfolding handed upto
   sweep-length zero = refl
   sweep-length (suc j) = child-length j 1 (toChild j 0 (handed j a)) ∙ child-length j 0 (handed j a) ∙ sweep-length j
@@ -220,3 +220,24 @@ module _ (a : List ℕ) (n : ℕ) (g : Forest a n) where
       let before = early (childWord a p b) v hv p (omega arith) (λ m d hm hd q e. let z = g .one p b m d hp hb (omega arith) hd l e in omega (arith, z .0)) in
       let parent = stays p v hv p (λ m d hm hn hd q e. let u = g .up m d hn hd q in omega arith) n (omega arith) (le-refl n) in
       after ∙ turn ∙ ap (λ (x : ℕ). bitOr x (vectorWord (handed p a) p v)) before ∙ ap (λ (x : ℕ). bitOr (vectorWord a (childWord a p b) v) x) (sym parent)
+
+-- ---- words beyond the records stay
+
+or-beyond : (k c j : ℕ) (a : List ℕ) → recordWords * c + recordWords ≤ j → (w : ℕ) → w ≤ 8 → getD (upto (orWord k c) w a) j 0 ≡ getD a j 0
+unfolding upto
+or-beyond k c j a h zero hw = refl
+or-beyond k c j a h (suc w) hw =
+    getD-set-other (upto (orWord k c) w a) (recordWords * c + vectorAt + w) j _ 0 (λ e. omega arith) ∙ or-beyond k c j a h w (omega arith)
+
+child-beyond : (k b j : ℕ) (a : List ℕ) → recordWords * childWord a k b + recordWords ≤ j → getD (toChild k b a) j 0 ≡ getD a j 0
+unfolding joined
+child-beyond k b j a h = by-child k b a (λ x. getD x j 0 ≡ getD a j 0) (λ e. refl) (λ l. or-beyond k (childWord a k b) j a h 8 (le-refl 8))
+
+module _ (a : List ℕ) (n : ℕ) (g : Forest a n) where
+  pub sweep-beyond : (j : ℕ) → recordWords * n ≤ j → (m : ℕ) → m ≤ n → getD (handed m a) j 0 ≡ getD a j 0
+  unfolding handed upto
+  sweep-beyond j h zero hm = refl
+  sweep-beyond j h (suc m) hm =
+      child-beyond m 1 j (toChild m 0 (handed m a)) (omega (arith, kid₁ a n g m hm, g .below m 1 hm (omega arith)))
+      ∙ child-beyond m 0 j (handed m a) (omega (arith, kid₀ a n g m hm, g .below m 0 hm (omega arith)))
+      ∙ sweep-beyond j h m (omega arith)

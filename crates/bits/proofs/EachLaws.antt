@@ -1,9 +1,9 @@
 -- Laws of tests over whole lists. A test that holds at each place of two lists: one induction over three lists serves all.
 -- Assumes nothing.
-use mathlib.Core.Path.{_≡_, refl, ap, ap₂}
+use mathlib.Core.Path.{_≡_, refl, sym, ap, ap₂, _∙_}
 use mathlib.Core.Logic.{⊎-elim}
 use mathlib.Core.Bool.{Bool, true, _&&_, false≢true}
-use mathlib.Core.List.{List, [], _∷_, map, zipWith}
+use mathlib.Core.List.{List, [], _∷_, _++_, map, zipWith}
 use Prim.Native.Nat.{ℕ, zero, suc, _+_, _<_}
 use native.Mathlib.Nat.{zero-lt-suc, le-of-suc-le-suc}
 use native.Mathlib.Omega.{arith}
@@ -116,3 +116,35 @@ some-at test (x ∷ l) d e =
     (λ here. (0, omega arith, here))
     (λ later. let r = some-at test l d later in (suc (r .0), omega arith, r .2))
     (or-trues (test x) (any test l) e)
+
+pub up-snoc : (k n : ℕ) → upFrom k (suc n) ≡ upFrom k n ++ ((k + n) ∷ [])
+unfolding upFrom
+up-snoc k zero = ap {B = List ℕ} (λ (x : ℕ). x ∷ []) (omega arith)
+up-snoc k (suc n) = ap (λ (l : List ℕ). k ∷ l) (up-snoc (suc k) n ∙ ap (λ (x : ℕ). upFrom (suc k) n ++ (x ∷ [])) (omega arith))
+
+-- ---- place by place
+
+-- counted from one more
+all-shift : (t : ℕ → Bool) (k n : ℕ) → all t (upFrom (suc k) n) ≡ all (λ j. t (suc j)) (upFrom k n)
+unfolding all upFrom
+all-shift t k zero = refl
+all-shift t k (suc n) = ap (λ x. t (suc k) && x) (all-shift t (suc k) n)
+
+pub all-agree : (t u : ℕ → Bool) (k n : ℕ) → ((j : ℕ) → j < k + n → t j ≡ u j) → all t (upFrom k n) ≡ all u (upFrom k n)
+unfolding all upFrom
+all-agree t u k zero e = refl
+all-agree t u k (suc n) e = ap₂ (λ x y. x && y) (e k (omega arith)) (all-agree t u (suc k) n (λ j h. e j (omega arith)))
+
+pub map-agree : {A B : Type 0} (t u : A → B) (l : List A) (d : A) → ((k : ℕ) → k < length l → t (getD l k d) ≡ u (getD l k d)) → map t l ≡ map u l
+map-agree t u [] d e = refl
+map-agree {B} t u (x ∷ l) d e = ap₂ (λ (y : B) (m : List B). y ∷ m) (e 0 (omega arith)) (map-agree t u l d (λ k h. e (suc k) (omega arith)))
+
+pub each-places : {A B : Type 0} (p : A → B → Bool) (xs : List A) (ys : List B) (d : A) (e : B) → length xs ≡ length ys
+    → each p xs ys ≡ all (λ f. p (getD xs f d) (getD ys f e)) (upFrom 0 (length ys))
+unfolding each all upFrom
+each-places p [] [] d e h = refl
+each-places p [] (y ∷ ys) d e h = absurd (omega arith)
+each-places p (x ∷ xs) [] d e h = absurd (omega arith)
+each-places p (x ∷ xs) (y ∷ ys) d e h =
+    ap (λ t. p x y && t)
+    (each-places p xs ys d e (omega arith) ∙ sym (all-shift (λ f. p (getD (x ∷ xs) f d) (getD (y ∷ ys) f e)) 0 (length ys)))

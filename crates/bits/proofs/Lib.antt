@@ -1,6 +1,9 @@
 -- The laws of this crate's definitions, for its own proofs and for the crates above.
 pub mod TestLaws
+pub mod ListLaws
 pub mod EachLaws
 pub mod NumberLaws
 pub mod PathLaws
+pub mod SamePathLaws
 pub mod MaskLaws
+pub mod WordLaws

@@ -78,13 +78,13 @@ stray-number w v l h =
 
 -- ---- paths that lead each other
 
-beq-same : (a b : Bool) → Bool·beq a b ≡ true → a ≡ b
+pub beq-same : (a b : Bool) → Bool·beq a b ≡ true → a ≡ b
 beq-same true true e = refl
 beq-same true false e = absurd (false≢true e)
 beq-same false true e = absurd (false≢true e)
 beq-same false false e = refl
 
-beq-self : (a : Bool) → Bool·beq a a ≡ true
+pub beq-self : (a : Bool) → Bool·beq a a ≡ true
 beq-self true = refl
 beq-self false = refl
 

@@ -137,6 +137,19 @@ module _ (test : ℕ → Bool) where
       step true c h = omega arith
       step false c h = omega arith
 
+-- two tests that agree below n have their lowest place together
+pub lowest-agree : (t u : ℕ → Bool) (n : ℕ) → ((j : ℕ) → j < n → t j ≡ u j) → lowest t n ≡ lowest u n
+lowest-agree t u n e = go (lowest t n) (lowest-told t n)
+  where
+    go : (o : Option ℕ) → Told t n o → o ≡ lowest u n
+    go none never = sym (lowest-none u n (λ j h. sym (e j h) ∙ never j h))
+    go (some p) is =
+        sym (lowest-some u n p (record {
+          below = is .below;
+          passes = sym (e p (is .below)) ∙ is .passes;
+          first = λ j h. sym (e j (omega (arith, is .below))) ∙ is .first j h;
+        }))
+
 -- ---- a test that holds over a run of numbers holds at each
 
 pub all-up : (test : ℕ → Bool) (k n : ℕ) → all test (upFrom k n) ≡ true → (j : ℕ) → k ≤ j → j < k + n → test j ≡ true

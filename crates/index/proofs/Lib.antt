@@ -1,1 +1,9 @@
--- The laws of the index.
+-- The laws of the index, and the theorem that joins the build's steps to the image.
+pub mod KeyLaws
+pub mod CountLaws
+pub mod OrderLaws
+pub mod VectorLaws
+pub mod ImageLaws
+pub mod NeedLaws
+pub mod StepLaws
+pub mod Growth

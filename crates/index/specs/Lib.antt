@@ -5,3 +5,4 @@ pub mod Keys
 pub mod Shape
 pub mod Image
 pub mod Need
+pub mod Steps

@@ -1,1 +1,6 @@
-// The index over a rule table.
+// The index over a rule table: how many words it needs, and writing them. Both ask for an accepted
+// table; `desk` refuses any other before it calls.
+mod sizing;
+mod writing;
+
+pub use sizing::records_needed;

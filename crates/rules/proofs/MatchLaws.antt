@@ -1,18 +1,21 @@
 -- The rules of a table by place, and the first that matches a header.
 -- Assumes nothing.
 use mathlib.Core.Path.{_≡_, ap, _∙_}
+use mathlib.Core.Logic.{⊎-elim}
 use mathlib.Core.Bool.{Bool}
 use mathlib.Core.List.{List}
 use mathlib.Core.Option.{some}
-use Prim.Native.Nat.{ℕ, _<_}
+use Prim.Native.Nat.{ℕ, _+_, _*_, _≤_, _<_}
 use native.Mathlib.Omega.{arith}
-use lib.ListN.{length, length-map}
-use Rattle.bits.specs.Tests.{upFrom}
-use Rattle.bits.proofs.TestLaws.{Lowest, Told, lowest-told, lowest-some}
-use Rattle.bits.proofs.EachLaws.{getD-map, up-size, up-at}
-use Rattle.rules.specs.Rule.{Rule, ruleOf}
-use Rattle.rules.specs.Match.{matches, ruleAt, noRule, firstMatch}
-use Rattle.rules.specs.Table.{ruleCount, recordAt, rulesOf}
+use lib.ListN.{length, take, drop, length-map, length-take, List·getD-eq-default}
+use lib.Seq.{getD-take, getD-drop}
+use Rattle.bits.specs.Number.{Bytes}
+use Rattle.bits.specs.Tests.{all, upFrom}
+use Rattle.bits.proofs.TestLaws.{Lowest, Told, lowest-told, lowest-some, less}
+use Rattle.bits.proofs.EachLaws.{getD-map, up-size, up-at, each-places}
+use Rattle.rules.specs.Rule.{has, Rule, ruleOf}
+use Rattle.rules.specs.Match.{matches, nowhere, ruleAt, noRule, firstMatch, matchesIn}
+use Rattle.rules.specs.Table.{recordSize, ruleCount, recordAt, rulesOf}
 
 -- ---- the rules of a table
 
@@ -26,6 +29,20 @@ rules-at table place h =
     let n = ruleCount table in
     getD-map (λ k. ruleOf (recordAt table k)) (upFrom 0 n) place noRule 0 (rw (up-size 0 n) h)
     ∙ ap (λ (k : ℕ). ruleOf (recordAt table k)) (omega (arith, up-at 0 n place 0 h))
+
+pub record-bytes : (table : List ℕ) → Bytes table → (place : ℕ) → Bytes (recordAt table place)
+unfolding recordAt
+record-bytes table b place k =
+    let rest = drop (place * recordSize) table in
+    ⊎-elim
+    (λ (h : k < recordSize). rw (getD-take recordSize rest k 0 h, getD-drop (place * recordSize) table k 0) (b (place * recordSize + k)))
+    (λ (h : recordSize ≤ k). rw (List·getD-eq-default (take recordSize rest) 0 {n = k} (omega (arith, length-take recordSize rest))) (omega arith))
+    (less k recordSize)
+
+-- a rule with a span for each value matches when it has the value in each field
+pub matches-in : (values : List ℕ) (r : Rule) → length (r .spans) ≡ length values → matches values r ≡ all (λ f. matchesIn values f r) (upFrom 0 (length values))
+unfolding matches matchesIn
+matches-in values r h = each-places has (r .spans) values nowhere 0 h
 
 -- ---- the first match
 

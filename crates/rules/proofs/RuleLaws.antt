@@ -33,7 +33,7 @@ value-small bytes b long f h =
 
 -- ---- one faultless rule
 
-module _ (bytes : List ℕ) (b : Bytes bytes) (whole : length bytes ≡ recordSize) (sound : fault bytes ≡ 0) (f : ℕ) (h : f < 5) where
+module _ (bytes : List ℕ) (sound : fault bytes ≡ 0) (f : ℕ) (h : f < 5) where
   pub length-fits : lengthIn bytes (fieldAt f) ≤ fieldAt f .width
   unfolding longPrefix
   length-fits = ltb-false _ _ (field-none (λ (g : Field). ltb (g .width) (lengthIn bytes g)) f h (faultless bytes sound .short))
@@ -42,13 +42,14 @@ module _ (bytes : List ℕ) (b : Bytes bytes) (whole : length bytes ≡ recordSi
   unfolding strayBit
   no-stray = field-none (λ (g : Field). stray (g .width) (valueIn bytes g) (lengthIn bytes g)) f h (faultless bytes sound .clean)
 
+module _ (bytes : List ℕ) (b : Bytes bytes) (whole : length bytes ≡ recordSize) (sound : fault bytes ≡ 0) (f : ℕ) (h : f < 5) where
   -- the span has a value exactly when the prefix leads its bits
   pub field-has : (x : ℕ) → x < 2 ^ (fieldAt f .width)
       → has (spanOf (fieldAt f .width) (valueIn bytes (fieldAt f)) (lengthIn bytes (fieldAt f))) x
       ≡ leads (prefix (fieldAt f .width) (valueIn bytes (fieldAt f)) (lengthIn bytes (fieldAt f))) (bits (fieldAt f .width) x)
   field-has x small =
-      has-leads (fieldAt f .width) (valueIn bytes (fieldAt f)) (lengthIn bytes (fieldAt f)) x length-fits
-      (value-small bytes b (omega arith) f h) small no-stray
+      has-leads (fieldAt f .width) (valueIn bytes (fieldAt f)) (lengthIn bytes (fieldAt f)) x (length-fits bytes sound f h)
+      (value-small bytes b (omega arith) f h) small (no-stray bytes sound f h)
 
   -- so in each field some path of the rule leads a value's bits exactly when its span has the value
   pub agreement : (x : ℕ) → x < 2 ^ (fieldAt f .width)

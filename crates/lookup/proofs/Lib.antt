@@ -1,0 +1,8 @@
+-- The laws of lookup, for its own proofs and for the crates above.
+pub mod ScanLaws
+pub mod ShapeLaws
+pub mod WalkLaws
+pub mod HeldLaws
+pub mod MatchLaws
+pub mod LookLaws
+pub mod Demand2

@@ -1,0 +1,1 @@
+// Lookup over an area: walk, gather, scan.
