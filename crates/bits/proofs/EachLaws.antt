@@ -5,9 +5,10 @@ use mathlib.Core.Logic.{⊎-elim}
 use mathlib.Core.Bool.{Bool, true, _&&_, false≢true}
 use mathlib.Core.List.{List, [], _∷_, _++_, map, zipWith}
 use Prim.Native.Nat.{ℕ, zero, suc, _+_, _<_}
-use native.Mathlib.Nat.{zero-lt-suc, le-of-suc-le-suc}
+use native.Mathlib.Nat.{zero-lt-suc, le-of-suc-le-suc, zero-add}
 use native.Mathlib.Omega.{arith}
-use lib.ListN.{length, getD}
+use lib.ListN.{length, getD, length-map}
+use lib.Seq.{ext-getD}
 use Rattle.bits.specs.Tests.{any, all, each, upFrom}
 use Rattle.bits.proofs.TestLaws.{and-trues, and-both, or-trues}
 
@@ -148,3 +149,14 @@ each-places p (x ∷ xs) [] d e h = absurd (omega arith)
 each-places p (x ∷ xs) (y ∷ ys) d e h =
     ap (λ t. p x y && t)
     (each-places p xs ys d e (omega arith) ∙ sym (all-shift (λ f. p (getD (x ∷ xs) f d) (getD (y ∷ ys) f e)) 0 (length ys)))
+
+-- a list is what stands at its places
+pub listed : {A : Type 0} (l : List A) (d : A) → map (λ k. getD l k d) (upFrom 0 (length l)) ≡ l
+listed l d =
+    let places = map (λ k. getD l k d) (upFrom 0 (length l)) in
+    let size : length places ≡ length l = length-map (upFrom 0 (length l)) (λ k. getD l k d) ∙ up-size 0 (length l) in
+    ext-getD d places l size
+    (λ i h.
+    let small : i < length l = omega (arith, size) in
+    getD-map (λ k. getD l k d) (upFrom 0 (length l)) i d 0 (omega (arith, up-size 0 (length l)))
+    ∙ ap (λ (k : ℕ). getD l k d) (up-at 0 (length l) i 0 small ∙ zero-add i))

@@ -88,7 +88,7 @@ no-marks : (n : ℕ) (marks : List Mark) (k : Key) (v : ℕ) → v < 8 → ((i :
 unfolding markWord
 no-marks n marks k v h none = ap (λ (l : List Bool). getD (pack 32 8 l) v 0) (map-ext (markedAt marks k) (λ i. false) none (upFrom 0 n)) ∙ no-words (upFrom 0 n) v h
 
-digit-small : (b : Bool) → digit b < 2
+pub digit-small : (b : Bool) → digit b < 2
 digit-small true = omega arith
 digit-small false = omega arith
 
@@ -98,10 +98,10 @@ digit-one true false e = absurd (omega arith)
 digit-one false true e = absurd (omega arith)
 digit-one false false e = refl
 
-further-root : (k : Key) (b : Bool) (f : ℕ) → further k b ≡ at f [] → ⊥
+pub further-root : (k : Key) (b : Bool) (f : ℕ) → further k b ≡ at f [] → ⊥
 further-root k b f e = omega (arith, length-append (k .path) (b ∷ []), ap (λ (l : Key). length (l .path)) e)
 
-stands-same : {ks : List Key} {i : ℕ} {k l : Key} → Stands ks i k → Stands ks i l → k ≡ l
+pub stands-same : {ks : List Key} {i : ℕ} {k l : Key} → Stands ks i k → Stands ks i l → k ≡ l
 stands-same s t = sym (s .there) ∙ t .there
 
 -- ---- where a walk stands: at the record of a key, in an area that holds what was grown
@@ -544,17 +544,17 @@ module _ (n : ℕ) (a₀ : List ℕ) (ks : List Key) (marks : List Mark) (s : St
 
 -- ---- all rules
 
+-- the marks of a table's first i rules
+unfoldable pub marksTo : List ℕ → ℕ → List Mark
+marksTo table zero = []
+marksTo table (suc i) = marksTo table i ++ marksOf i (ruleInserts 0 5 (ruleAt (rulesOf table) i))
+
 module _ (table : List ℕ) (sound : AllSound table) (few : ruleCount table ≤ 256) (a₀ : List ℕ) where
   abbrev n : ℕ
   n = ruleCount table
 
   abbrev keysTo : ℕ → List Key
   keysTo i = insertAll (rootsFrom 0 5) (inserts 5 (take i (rulesOf table)))
-
-  -- the marks of the first i rules
-  unfoldable pub marksTo : ℕ → List Mark
-  marksTo zero = []
-  marksTo (suc i) = marksTo i ++ marksOf i (ruleInserts 0 5 (ruleAt (rulesOf table) i))
 
   keysTo-more : (i : ℕ) → i < n → keysTo (suc i) ≡ insertAll (keysTo i) (ruleInserts 0 5 (ruleAt (rulesOf table) i))
   keysTo-more i h =
@@ -590,7 +590,7 @@ module _ (table : List ℕ) (sound : AllSound table) (few : ruleCount table ≤ 
     root-word : (j : ℕ) → j < 5 * recordWords → getD (zeroed 0 (5 * recordWords) a₀) j 0 ≡ 0
     root-word j h = zeroed-inside 0 (5 * recordWords) j a₀ (omega arith) big (omega arith) h
 
-    roots-between : Between n a₀ (keysTo 0) (marksTo 0) (cleared a₀)
+    roots-between : Between n a₀ (keysTo 0) (marksTo table 0) (cleared a₀)
     unfolding insertAll inserts cleared marksTo
     roots-between =
         let five : length (rootsFrom 0 5) ≡ 5 = length-roots 0 5 in
@@ -611,7 +611,7 @@ module _ (table : List ℕ) (sound : AllSound table) (few : ruleCount table ≤ 
           next = sym five;
         }
 
-    rules-between : (i : ℕ) → i ≤ n → Between n a₀ (keysTo i) (marksTo i) (rulesIn table i (cleared a₀))
+    rules-between : (i : ℕ) → i ≤ n → Between n a₀ (keysTo i) (marksTo table i) (rulesIn table i (cleared a₀))
     unfolding rulesIn upto marksTo
     rules-between zero h = roots-between
     rules-between (suc i) h =
@@ -623,10 +623,10 @@ module _ (table : List ℕ) (sound : AllSound table) (few : ruleCount table ≤ 
         omega (arith, room, keysTo-le (suc i) h, ap length more, ap length keysTo-all)
         in
         let S = upto (λ i. ruleIn (recordAt table i) i) i (cleared a₀) in
-        let next = rule-between n a₀ (keysTo i) (marksTo i) S so-far i h few bytes (sound .each i h) fits in
-        subst (λ (l : List Key). Between n a₀ l (marksTo i ++ marksOf i (ruleInserts 0 5 (ruleAt (rulesOf table) i))) (ruleIn bytes i S)) (sym more)
-        (subst (λ (l : List Key). Between n a₀ (insertAll (keysTo i) (oneEach (pathOf bytes) 0 5)) (marksTo i ++ marksOf i l) (ruleIn bytes i S)) (sym here) next)
+        let next = rule-between n a₀ (keysTo i) (marksTo table i) S so-far i h few bytes (sound .each i h) fits in
+        subst (λ (l : List Key). Between n a₀ l (marksTo table i ++ marksOf i (ruleInserts 0 5 (ruleAt (rulesOf table) i))) (ruleIn bytes i S)) (sym more)
+        (subst (λ (l : List Key). Between n a₀ (insertAll (keysTo i) (oneEach (pathOf bytes) 0 5)) (marksTo table i ++ marksOf i l) (ruleIn bytes i S)) (sym here) next)
 
-    pub all-between : Between n a₀ (keys 5 (rulesOf table)) (marksTo n) (allIn table a₀)
+    pub all-between : Between n a₀ (keys 5 (rulesOf table)) (marksTo table n) (allIn table a₀)
     unfolding allIn
-    all-between = subst (λ (l : List Key). Between n a₀ l (marksTo n) (rulesIn table n (cleared a₀))) keysTo-all (rules-between n (le-refl n))
+    all-between = subst (λ (l : List Key). Between n a₀ l (marksTo table n) (rulesIn table n (cleared a₀))) keysTo-all (rules-between n (le-refl n))

@@ -255,47 +255,42 @@ module _ (k : Key) (below : Below k) where
   keys-through n rules =
       insertAll-member (rootsFrom 0 n) (inserts n rules) ∙ ap (λ t. t || any (through k) (inserts n rules)) (roots-member 0 n)
 
--- ---- of what a rule puts in, the paths of the key's field go through the key
+-- ---- of what a rule puts in, a test of one field's keys asks that field's paths alone
+
+module _ (f : ℕ) (test : Path → Bool) where
+  abbrev pub passes : Key → Bool
+  passes l = eqb f (l .field) && test (l .path)
+
+  rule-step : (r : Rule) (g n : ℕ) → any passes (ruleInserts g (suc n) r) ≡ ((eqb f g && any test (pathsIn r g)) || any passes (ruleInserts (suc g) n r))
+  unfolding ruleInserts
+  rule-step r g n =
+      any-append passes (map (at g) (pathsIn r g)) (ruleInserts (suc g) n r)
+      ∙ ap (λ t. t || any passes (ruleInserts (suc g) n r)) (any-map passes (at g) (pathsIn r g) ∙ any-and (eqb f g) test (pathsIn r g))
+
+  rule-past : (r : Rule) (g n : ℕ) → f < g → any passes (ruleInserts g n r) ≡ false
+  unfolding ruleInserts any
+  rule-past r g zero h = refl
+  rule-past r g (suc n) h = rule-step r g n ∙ rw (ne-eqb f g (λ e. omega arith)) (rule-past r (suc g) n (omega arith))
+
+  pub rule-passes : (r : Rule) (g n : ℕ) → g ≤ f → f < g + n → any passes (ruleInserts g n r) ≡ any test (pathsIn r f)
+  rule-passes r g zero l h = absurd (omega arith)
+  rule-passes r g (suc n) l h =
+      rule-step r g n
+      ∙ ⊎-elim
+      (λ (e : g ≡ f). rw (e, eq-eqb f f refl, rule-past r (suc f) n (omega arith)) (or-false (any test (pathsIn r f))))
+      (λ (s : g < f). rw (ne-eqb f g (λ e. omega arith)) (rule-passes r (suc g) n s (omega arith)))
+      (equal g f l)
 
 -- some path of some rule goes through the key
 abbrev pub reached : Key → List Rule → Bool
 reached k rules = any (λ (r : Rule). any (leads (k .path)) (pathsIn r (k .field))) rules
 
-module _ (k : Key) where
-  field-through : (g : ℕ) (ps : List Path) → any (through k) (map (at g) ps) ≡ (eqb (k .field) g && any (leads (k .path)) ps)
-  field-through g ps = any-map (through k) (at g) ps ∙ any-and (eqb (k .field) g) (leads (k .path)) ps
-
-  rule-step : (r : Rule) (g n : ℕ)
-      → any (through k) (ruleInserts g (suc n) r)
-      ≡ ((eqb (k .field) g && any (leads (k .path)) (pathsIn r g)) || any (through k) (ruleInserts (suc g) n r))
-  unfolding ruleInserts
-  rule-step r g n =
-      any-append (through k) (map (at g) (pathsIn r g)) (ruleInserts (suc g) n r)
-      ∙ ap (λ t. t || any (through k) (ruleInserts (suc g) n r)) (field-through g (pathsIn r g))
-
-  rule-past : (r : Rule) (g n : ℕ) → k .field < g → any (through k) (ruleInserts g n r) ≡ false
-  unfolding ruleInserts any
-  rule-past r g zero h = refl
-  rule-past r g (suc n) h = rule-step r g n ∙ rw (ne-eqb (k .field) g (λ e. omega arith)) (rule-past r (suc g) n (omega arith))
-
-  rule-through : (r : Rule) (g n : ℕ) → g ≤ k .field → k .field < g + n
-      → any (through k) (ruleInserts g n r) ≡ any (leads (k .path)) (pathsIn r (k .field))
-  rule-through r g zero l h = absurd (omega arith)
-  rule-through r g (suc n) l h =
-      rule-step r g n
-      ∙ ⊎-elim
-      (λ (e : g ≡ k .field).
-      rw (e, eq-eqb (k .field) (k .field) refl, rule-past r (suc (k .field)) n (omega arith))
-      (or-false (any (leads (k .path)) (pathsIn r (k .field)))))
-      (λ (s : g < k .field). rw (ne-eqb (k .field) g (λ e. omega arith)) (rule-through r (suc g) n s (omega arith)))
-      (equal g (k .field) l)
-
-  inserts-through : (n : ℕ) (rules : List Rule) → k .field < n → any (through k) (inserts n rules) ≡ reached k rules
-  unfolding inserts any
-  inserts-through n [] h = refl
-  inserts-through n (r ∷ rules) h =
-      any-append (through k) (ruleInserts 0 n r) (inserts n rules)
-      ∙ ap₂ (λ s t. s || t) (rule-through r 0 n zero-le (omega arith)) (inserts-through n rules h)
+inserts-through : (k : Key) (n : ℕ) (rules : List Rule) → k .field < n → any (through k) (inserts n rules) ≡ reached k rules
+unfolding inserts any
+inserts-through k n [] h = refl
+inserts-through k n (r ∷ rules) h =
+    any-append (through k) (ruleInserts 0 n r) (inserts n rules)
+    ∙ ap₂ (λ s t. s || t) (rule-passes (k .field) (leads (k .path)) r 0 n zero-le (omega arith)) (inserts-through k n rules h)
 
 -- ---- the records of an index
 

@@ -7,3 +7,5 @@ pub mod ImageLaws
 pub mod NeedLaws
 pub mod StepLaws
 pub mod Growth
+pub mod MarkLaws
+pub mod BuildLaws

@@ -1,6 +1,6 @@
 -- The order of an index's keys: no key stands twice, a key's parent stands before it, and what is put in later comes behind.
 -- Assumes nothing.
-use mathlib.Core.Path.{_≡_, refl, sym, ap, _∙_}
+use mathlib.Core.Path.{_≡_, refl, sym, ap, _∙_, subst}
 use mathlib.Core.Logic.{_⊎_, inl, inr, ⊎-elim}
 use mathlib.Core.Bool.{Bool, true, false, false≢true}
 use mathlib.Core.List.{List, [], _∷_, _++_, map, append-nil, append-assoc, concat-ne-nil}
@@ -127,6 +127,41 @@ unfolding inserts
 within-inserts n [] = tt
 within-inserts n (r ∷ rules) =
     within-append n (ruleInserts 0 n r) (inserts n rules) (within-rule n 0 n r (omega arith)) (within-inserts n rules)
+
+within-steps : (n f : ℕ) → f < n → (q p : Path) → Within n (stepsFrom f q p)
+unfolding stepsFrom
+within-steps n f h q [] = tt
+within-steps n f h q (b ∷ p) = (h, within-steps n f h (q ++ (b ∷ [])) p)
+
+within-grow : (n : ℕ) (ks new : List Key) → Within n ks → Within n new → Within n (grow ks new)
+unfolding grow
+within-grow n ks [] w v = w
+within-grow n ks (k ∷ new) w v =
+    within-grow n (grown ks k) new
+    (⊎-elim (λ e. rw (grown-old ks k e) w) (λ e. rw (grown-new ks k e) (within-append n ks (k ∷ []) w (v .0, tt))) (decided (member k ks)))
+    (v .1)
+
+within-insertAll : (n : ℕ) (ks new : List Key) → Within n ks → Within n new → Within n (insertAll ks new)
+unfolding insertAll insert
+within-insertAll n ks [] w v = w
+within-insertAll n ks (k ∷ new) w v = within-insertAll n (insert ks k) new (within-grow n ks (stepsFrom (k .field) [] (k .path)) w (within-steps n (k .field) (v .0) [] (k .path))) (v .1)
+
+within-roots : (n f m : ℕ) → f + m ≤ n → Within n (rootsFrom f m)
+unfolding rootsFrom
+within-roots n f zero h = tt
+within-roots n f (suc m) h = (omega arith, within-roots n (suc f) m (omega arith))
+
+within-at : (n : ℕ) (ks : List Key) → Within n ks → (i : ℕ) (k : Key) → Stands ks i k → k .field < n
+within-at n [] w i k s = absurd (omega (arith, s .inside))
+within-at n (l ∷ ks) w zero k s = subst (λ (m : Key). m .field < n) (s .there) (w .0)
+within-at n (l ∷ ks) w (suc i) k s = within-at n ks (w .1) i k (record { inside = omega (arith, s .inside); there = s .there })
+
+-- a record's key is of one of the fields
+pub keys-field : (n : ℕ) (rules : List Rule) (i : ℕ) (k : Key) → Stands (keys n rules) i k → k .field < n
+unfolding keys
+keys-field n rules =
+    within-at n (insertAll (rootsFrom 0 n) (inserts n rules))
+    (within-insertAll n (rootsFrom 0 n) (inserts n rules) (within-roots n 0 n (omega arith)) (within-inserts n rules))
 
 pub roots-parented : (n : ℕ) → Parented (rootsFrom 0 n)
 roots-parented n i k b s = absurd (concat-ne-nil b (k .path) (ap (λ (l : Key). l .path) (root-stands 0 n i (further k b) s)))

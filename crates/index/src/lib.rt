@@ -4,3 +4,4 @@ mod sizing;
 mod writing;
 
 pub use sizing::records_needed;
+pub use writing::write;

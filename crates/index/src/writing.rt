@@ -8,7 +8,7 @@ ghost use Rattle.area.specs.Grow.{mk, Ready, Roomy};
 ghost use Rattle.rules.specs.Table.{recordSize, recordAt, rulesOf, ruleCount};
 ghost use Rattle.index.specs.Shape.{deskShape};
 ghost use Rattle.index.specs.Image.{image};
-ghost use Rattle.index.specs.Need.{need};
+ghost use Rattle.index.specs.Need.{records, need};
 ghost use Rattle.index.specs.Steps.{Sound, AllSound, fieldIn, ruleIn, rulesIn, allIn};
 
 // Rule i's prefix of field f goes in.
@@ -58,4 +58,15 @@ fn grow_all(table: &[u8], area: &mut [u32]) -> usize
 {
     area::clear(area, 0, rules::FIELDS * area::RECORD_WORDS);
     rules_in(table, area, rules::FIELDS)
+}
+
+// Writes the index of an accepted table; the area's further words keep their values.
+pub fn write(table: &[u8], area: &mut [u32])
+    requires { ⌜ (ruleCount (now table) ≤ 256) × AllSound (now table) ⌝ }
+    requires { ⌜ (records 5 (rulesOf (now table)) ≤ 40965) × (need deskShape (rulesOf (now table)) ≤ length (now area)) ⌝ }
+    ensures { λ _. ⌜ now (area .exit) ≡ image deskShape (rulesOf (now (table .entry))) ++ drop (need deskShape (rulesOf (now (table .entry)))) (now (area .entry)) ⌝ }
+{
+    let count = grow_all(table, area);
+    area::hand_on(area, count);
+    area::aggregate_all(area, count);
 }
