@@ -1,3 +1,5 @@
 -- The desk on one page: what each call answers, and 01's worked examples.
 pub mod Show
+pub mod Lent
+pub mod BuildCall
 pub mod Worked

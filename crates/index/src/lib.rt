@@ -3,5 +3,5 @@
 mod sizing;
 mod writing;
 
-pub use sizing::records_needed;
+pub use sizing::words_needed;
 pub use writing::write;

@@ -9,7 +9,8 @@ ghost use Rattle.rules.specs.Match.{ruleAt};
 ghost use Rattle.rules.specs.Table.{recordSize, recordAt, rulesOf, ruleCount};
 ghost use Rattle.index.specs.Key.{at};
 ghost use Rattle.index.specs.Keys.{inserts, ruleInserts};
-ghost use Rattle.index.specs.Need.{longest, fresh, records};
+ghost use Rattle.index.specs.Need.{longest, fresh, records, need};
+ghost use Rattle.index.specs.Shape.{deskShape};
 ghost use Rattle.index.specs.Steps.{pathOf, Sound, AllSound};
 
 fn greater(a: usize, b: usize) -> usize
@@ -60,7 +61,7 @@ fn rule_need(table: &[u8], i: usize) -> usize
 }
 
 // The records that the index of an accepted table needs.
-pub fn records_needed(table: &[u8]) -> usize
+fn records_needed(table: &[u8]) -> usize
     requires { ⌜ (ruleCount (now table) ≤ 256) × AllSound (now table) ⌝ }
     ensures { λ r. ⌜ (r ≡ records 5 (rulesOf (now (table .entry)))) × (r ≤ 40965) ⌝ }
 {
@@ -70,4 +71,12 @@ pub fn records_needed(table: &[u8]) -> usize
         sum += rule_need(table, i);
     }
     sum
+}
+
+// The words that the index of an accepted table needs.
+pub fn words_needed(table: &[u8]) -> usize
+    requires { ⌜ (ruleCount (now table) ≤ 256) × AllSound (now table) ⌝ }
+    ensures { λ r. ⌜ (r ≡ need deskShape (rulesOf (now (table .entry)))) × (records 5 (rulesOf (now (table .entry))) ≤ 40965) ⌝ }
+{
+    records_needed(table) * area::RECORD_WORDS
 }

@@ -1,0 +1,45 @@
+-- Lent memory: a refusal leaves it unchanged. And the calls that judge the table, then the room, and only then write: the three ways
+-- that they end.
+-- Assumes nothing.
+use mathlib.Core.Path.{_≡_, refl, sym, ap, _∙_}
+use mathlib.Core.List.{List, [], _∷_}
+use Prim.Native.Nat.{ℕ, _≤_, _<_}
+use lib.ListN.{length}
+use borrow.Author.Tests.{lt-ltb, le-ltb}
+use Rattle.rules.specs.declared.Refusal.{Refusal}
+use Rattle.rules.specs.Refusal.{said, firstRefusal}
+use Rattle.rules.specs.Table.{verdict, Accepted}
+use Rattle.rules.proofs.SaidLaws.{numbered, refused-first}
+use Rattle.desk.specs.Lent.{roomSaid, lentAfter}
+
+-- what is said, and what is left: after a refusal, the memory as it was
+pub lent-refused : (r : Refusal) (says written before : List ℕ) → says ≡ said r → (said r ≡ says) × (before ≡ lentAfter says written before)
+unfolding lentAfter
+lent-refused r says written before e = (sym e, sym (ap (λ (vs : List ℕ). lentAfter vs written before) (e ∙ numbered r .2)))
+
+module _ (table lent written : List ℕ) (short : Refusal) (number needed value : ℕ) (plain : said short ≡ number ∷ []) where
+  abbrev says : List ℕ
+  says = firstRefusal (verdict table) (roomSaid number needed lent value)
+
+  -- a refused table
+  pub room-refused : (r : Refusal) → said r ≡ verdict table → (said r ≡ says) × (lent ≡ lentAfter says written lent)
+  room-refused r e =
+      let rest = roomSaid number needed lent value in
+      lent-refused r says written lent (ap (λ (vs : List ℕ). firstRefusal vs rest) (sym e) ∙ refused-first r rest)
+
+  module _ (ok : Accepted table) where
+    says-room : says ≡ roomSaid number needed lent value
+    unfolding firstRefusal
+    says-room = ap (λ (vs : List ℕ). firstRefusal vs (roomSaid number needed lent value)) ok
+
+    -- no room
+    pub room-short : length lent < needed → (said short ≡ says) × (lent ≡ lentAfter says written lent)
+    unfolding roomSaid
+    room-short h = lent-refused short says written lent (says-room ∙ rw (lt-ltb (length lent) needed h) (sym plain))
+
+    -- done
+    pub room-done : needed ≤ length lent → (0 ∷ value ∷ [] ≡ says) × (written ≡ lentAfter says written lent)
+    unfolding roomSaid lentAfter
+    room-done h =
+        let e : says ≡ 0 ∷ value ∷ [] = says-room ∙ rw (le-ltb (length lent) needed h) in
+        (sym e, sym (ap (λ (vs : List ℕ). lentAfter vs written lent) e))
