@@ -1,10 +1,11 @@
 -- The ways to satisfy the statement of `build`: a refused table, a short area, and the index written.
 -- Assumes nothing.
-use mathlib.Core.Path.{_≡_, refl}
+use mathlib.Core.Path.{_≡_, refl, sym, ap, _∙_}
 use mathlib.Core.List.{List, [], _∷_, _++_}
 use Prim.Native.Nat.{ℕ, _≤_, _<_}
 use native.Mathlib.Omega.{arith}
-use lib.ListN.{length, drop}
+use lib.ListN.{length, take, drop}
+use lib.Seq.{take-at}
 use Rattle.rules.specs.declared.Refusal.{Refusal}
 use Rattle.rules.specs.declared.Refusal.the-variants.{ShortArea}
 use Rattle.rules.specs.Refusal.{said}
@@ -13,9 +14,11 @@ use Rattle.rules.proofs.TableLaws.{length-record, accepted-sound}
 use Rattle.index.specs.Shape.{deskShape}
 use Rattle.index.specs.Image.{image}
 use Rattle.index.specs.Steps.{AllSound}
+use Rattle.index.proofs.ImageLaws.{one-level-sized, length-image}
 use Rattle.desk.specs.declared.Built.the-variants.{Done, Refused}
+use Rattle.desk.specs.Lent.{roomSaid}
 use Rattle.desk.specs.BuildCall.{builtSaid, wordsNeeded, buildSaid, areaLeft, Builds}
-use Rattle.desk.proofs.LentLaws.{room-refused, room-short, room-done}
+use Rattle.desk.proofs.LentLaws.{room-refused, room-short, room-done, done-accepted, done-written}
 
 -- what an accepted table gives the index
 pub all-sound : (table : List ℕ) → Accepted table → AllSound table
@@ -48,3 +51,16 @@ module _ (table area : List ℕ) where
   build-done ok h =
       let w = room-done table area written ShortArea 7 (wordsNeeded table) (wordsNeeded table) plain ok h in
       record { answer = w .0; lent = w .1 }
+
+-- the other way round: after a build that is done the table is accepted, and the words needed are the image
+pub built-image : {table area after : List ℕ} {words : ℕ} → Builds table area (Done words) after
+    → Accepted table × (take (wordsNeeded table) after ≡ image deskShape (rulesOf table))
+unfolding builtSaid buildSaid areaLeft
+built-image {table = table} {area = area} {after = after} {words = words} b =
+    let says : buildSaid table area ≡ 0 ∷ words ∷ [] = sym (b .answer) in
+    let left : after ≡ written table area = b .lent ∙ done-written (buildSaid table area) (written table area) area (words ∷ []) says in
+    (
+      done-accepted table (roomSaid 7 (wordsNeeded table) area (wordsNeeded table)) (words ∷ []) says,
+      ap (take (wordsNeeded table)) left
+      ∙ take-at (image deskShape (rulesOf table)) (drop (wordsNeeded table) area) (wordsNeeded table) (length-image deskShape (one-level-sized 5 32 8) (rulesOf table)),
+    )

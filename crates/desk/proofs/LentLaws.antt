@@ -2,14 +2,17 @@
 -- that they end.
 -- Assumes nothing.
 use mathlib.Core.Path.{_≡_, refl, sym, ap, _∙_}
+use mathlib.Core.Logic.{⊎-elim}
 use mathlib.Core.List.{List, [], _∷_}
-use Prim.Native.Nat.{ℕ, _≤_, _<_}
-use lib.ListN.{length}
+use Prim.Native.Nat.{ℕ, suc, _≤_, _<_}
+use native.Mathlib.Omega.{arith}
+use lib.ListN.{length, getD}
 use borrow.Author.Tests.{lt-ltb, le-ltb}
 use Rattle.rules.specs.declared.Refusal.{Refusal}
 use Rattle.rules.specs.Refusal.{said, firstRefusal}
 use Rattle.rules.specs.Table.{verdict, Accepted}
 use Rattle.rules.proofs.SaidLaws.{numbered, refused-first}
+use Rattle.rules.proofs.TableLaws.{verdict-either}
 use Rattle.desk.specs.Lent.{roomSaid, lentAfter}
 
 -- what is said, and what is left: after a refusal, the memory as it was
@@ -43,3 +46,17 @@ module _ (table lent written : List ℕ) (short : Refusal) (number needed value 
     room-done h =
         let e : says ≡ 0 ∷ value ∷ [] = says-room ∙ rw (le-ltb (length lent) needed h) in
         (sym e, sym (ap (λ (vs : List ℕ). lentAfter vs written lent) e))
+
+-- the other way round: what is done had an accepted table, and what was to be written is left
+pub done-accepted : (table rest vs : List ℕ) → firstRefusal (verdict table) rest ≡ 0 ∷ vs → Accepted table
+unfolding firstRefusal
+done-accepted table rest vs e =
+    ⊎-elim (λ (ok : Accepted table). ok)
+    (λ (bad : (n : ℕ) × (ws : List ℕ) × (verdict table ≡ suc n ∷ ws)).
+    let said : suc (bad .0) ∷ bad .1 ≡ 0 ∷ vs = sym (ap (λ (l : List ℕ). firstRefusal l rest) (bad .2)) ∙ e in
+    absurd (omega (arith, ap (λ (l : List ℕ). getD l 0 0) said)))
+    (verdict-either table)
+
+pub done-written : (says written before vs : List ℕ) → says ≡ 0 ∷ vs → lentAfter says written before ≡ written
+unfolding lentAfter
+done-written says written before vs e = ap (λ (l : List ℕ). lentAfter l written before) e
