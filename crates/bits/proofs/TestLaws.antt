@@ -70,6 +70,10 @@ module _ {A : Type 0} (test : A → Bool) (l : List A) (d : A) (k : ℕ) (inside
   unfolding any
   any-from = rw (add-one k, drop-cons l k d inside)
 
+  pub all-from : all test (drop k l) ≡ (test (getD l k d) && all test (drop (k + 1) l))
+  unfolding all
+  all-from = rw (add-one k, drop-cons l k d inside)
+
 -- where no element passes, none passes at a place
 pub none-at : {A : Type 0} (test : A → Bool) (l : List A) (d : A) (k : ℕ) → any test l ≡ false → k < length l → test (getD l k d) ≡ false
 unfolding any

@@ -58,9 +58,8 @@ pub built-image : {table area after : List ℕ} {words : ℕ} → Builds table a
 unfolding builtSaid buildSaid areaLeft
 built-image {table = table} {area = area} {after = after} {words = words} b =
     let says : buildSaid table area ≡ 0 ∷ words ∷ [] = sym (b .answer) in
-    let left : after ≡ written table area = b .lent ∙ done-written (buildSaid table area) (written table area) area (words ∷ []) says in
-    (
+    let left : after ≡ written table area = b .lent ∙ done-written (buildSaid table area) (written table area) area (words ∷ []) says in (
       done-accepted table (roomSaid 7 (wordsNeeded table) area (wordsNeeded table)) (words ∷ []) says,
       ap (take (wordsNeeded table)) left
-      ∙ take-at (image deskShape (rulesOf table)) (drop (wordsNeeded table) area) (wordsNeeded table) (length-image deskShape (one-level-sized 5 32 8) (rulesOf table)),
+          ∙ take-at (image deskShape (rulesOf table)) (drop (wordsNeeded table) area) (wordsNeeded table) (length-image deskShape (one-level-sized 5 32 8) (rulesOf table)),
     )

@@ -6,7 +6,11 @@ use Prim.Native.Nat.{ℕ}
 use lib.ListN.{getD}
 use Rattle.rules.proofs.SaidLaws.{answerFrom, answer-refused, one-answer}
 use Rattle.desk.specs.declared.Built as built
+use Rattle.desk.specs.declared.Paired as paired
+use Rattle.desk.specs.declared.Judged as judged
 use Rattle.desk.specs.BuildCall.{builtSaid, Builds}
+use Rattle.desk.specs.PairsCall.{pairedSaid, Pairs}
+use Rattle.desk.specs.JudgeCall.{judgedSaid, Judges}
 use Rattle.desk.specs.Show.{Shows}
 
 -- ---- build
@@ -23,6 +27,37 @@ pub build-one : {table area : List ℕ} {a b : built.Built} {after other : List 
     → Builds table area a after → Builds table area b other → (a ≡ b) × (after ≡ other)
 build-one {a = a} {b = b} p q = (
   one-answer builtSaid (answerFrom sized built.the-variants.Refused) built-back a b (p .answer ∙ sym (q .answer)),
+  p .lent ∙ sym (q .lent),
+)
+
+-- ---- pairs
+
+abbrev counted : List ℕ → paired.Paired
+counted vs = paired.the-variants.Listed (getD vs 0 0)
+
+paired-back : (a : paired.Paired) → answerFrom counted paired.the-variants.Refused (pairedSaid a) ≡ a
+unfolding pairedSaid
+paired-back (paired.the-variants.Listed n) = refl
+paired-back (paired.the-variants.Refused r) = answer-refused counted paired.the-variants.Refused r
+
+pub pairs-one : {table list : List ℕ} {a b : paired.Paired} {after other : List ℕ}
+    → Pairs table list a after → Pairs table list b other → (a ≡ b) × (after ≡ other)
+pairs-one {a = a} {b = b} p q = (
+  one-answer pairedSaid (answerFrom counted paired.the-variants.Refused) paired-back a b (p .answer ∙ sym (q .answer)),
+  p .lent ∙ sym (q .lent),
+)
+
+-- ---- judge
+
+judged-back : (a : judged.Judged) → answerFrom (λ vs. judged.the-variants.Allowed) judged.the-variants.Refused (judgedSaid a) ≡ a
+unfolding judgedSaid
+judged-back judged.the-variants.Allowed = refl
+judged-back (judged.the-variants.Refused r) = answer-refused (λ vs. judged.the-variants.Allowed) judged.the-variants.Refused r
+
+pub judge-one : {table order output : List ℕ} {a b : judged.Judged} {after other : List ℕ}
+    → Judges table order output a after → Judges table order output b other → (a ≡ b) × (after ≡ other)
+judge-one {a = a} {b = b} p q = (
+  one-answer judgedSaid (answerFrom (λ vs. judged.the-variants.Allowed) judged.the-variants.Refused) judged-back a b (p .answer ∙ sym (q .answer)),
   p .lent ∙ sym (q .lent),
 )
 

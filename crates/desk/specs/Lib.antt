@@ -2,4 +2,6 @@
 pub mod Show
 pub mod Lent
 pub mod BuildCall
+pub mod PairsCall
+pub mod JudgeCall
 pub mod Worked

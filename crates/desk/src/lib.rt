@@ -1,8 +1,11 @@
 // The rule desk: its public calls, each with its statement, none with a `requires`.
 // specs/ says what each answers, for any bytes at all.
+use overlap::Obstacle;
 use rules::Checked;
 use rules::Refusal;
 ghost use Rattle.desk.specs.BuildCall.{Builds};
+ghost use Rattle.desk.specs.JudgeCall.{Judges};
+ghost use Rattle.desk.specs.PairsCall.{Pairs};
 ghost use Rattle.desk.specs.Show.{Shows};
 
 pub enum Built {
@@ -24,6 +27,55 @@ pub fn build(table: &[u8], area: &mut [u32]) -> Built
     }
     index::write(table, area);
     Built::Done(words)
+}
+
+pub enum Paired {
+    Listed(usize),
+    Refused(Refusal),
+}
+
+// The pairs of rules that share a header while neither covers the other, written to the lent list by
+// their places; the answer is their number.
+pub fn pairs(table: &[u8], list: &mut [u16]) -> Paired
+    ensures { λ r. ⌜ Pairs (now (table .entry)) (now (list .entry)) r (now (list .exit)) ⌝ }
+{
+    if let Checked::Refused(refusal) = rules::check_table(table) {
+        return Paired::Refused(refusal);
+    }
+    let count = overlap::count_pairs(table);
+    if list.len() < 2 * count {
+        return Paired::Refused(Refusal::ShortList);
+    }
+    overlap::write_pairs(table, list);
+    Paired::Listed(count)
+}
+
+// What `judge` answers.
+pub enum Judged {
+    Allowed,
+    Refused(Refusal),
+}
+
+// Whether the rules may be put in the proposed order; if they may, the moved table is written to the lent
+// output.
+pub fn judge(table: &[u8], order: &[u16], output: &mut [u8]) -> Judged
+    ensures { λ r. ⌜ Judges (now (table .entry)) (now (order .entry)) (now (output .entry)) r (now (output .exit)) ⌝ }
+{
+    if let Checked::Refused(refusal) = rules::check_table(table) {
+        return Judged::Refused(refusal);
+    }
+    let inverse = overlap::check_order(order, table.len() / rules::RECORD_BYTES);
+    if !inverse.valid {
+        return Judged::Refused(Refusal::NotAnOrder);
+    }
+    if output.len() < table.len() {
+        return Judged::Refused(Refusal::ShortOutput);
+    }
+    if let Obstacle::Crossed(crossing) = overlap::first_crossing(table, inverse) {
+        return Judged::Refused(Refusal::NotAllowed(crossing));
+    }
+    overlap::write_moved(table, order, output);
+    Judged::Allowed
 }
 
 // The rule at a place: the record's own 24 bytes as a part of the table, or an empty part where no

@@ -29,14 +29,14 @@ use Rattle.bits.proofs.WordLaws.{pack-at, length-pack, pack-set}
 use Rattle.bits.proofs.EachLaws.{getD-map, up-size, up-at}
 use Rattle.rules.specs.Rule.{Rule}
 use Rattle.rules.specs.Match.{ruleAt}
-use Rattle.rules.specs.Table.{ruleCount, recordAt, rulesOf}
+use Rattle.rules.specs.Table.{ruleCount, recordAt, rulesOf, SoundRule}
 use Rattle.rules.proofs.MatchLaws.{rules-size}
 use Rattle.rules.proofs.RuleLaws.{length-fits}
 use Rattle.rules.specs.Field.{fieldAt, valueIn, lengthIn}
 use Rattle.index.specs.Key.{Key, at, sameKey, member, placeFrom}
 use Rattle.index.specs.Keys.{grown, grow, stepsFrom, insert, insertAll, inserts, ruleInserts, rootsFrom, keys}
 use Rattle.index.specs.Image.{child}
-use Rattle.index.specs.Steps.{Sound, AllSound, pathOf, fieldIn, ruleIn, rulesIn, cleared, allIn}
+use Rattle.index.specs.Steps.{AllSound, pathOf, fieldIn, ruleIn, rulesIn, cleared, allIn}
 use Rattle.index.proofs.KeyLaws.{further, noKey, sameKey-eq, sameKey-refl, sameKey-ne, longer, further-same, Stands, stands-append, stands-snoc, stands-member, place-in, place-out, grown-old, grown-new, below-beyond, roots-member, Rooted, roots-rooted}
 use Rattle.index.proofs.OrderLaws.{keys-once, keys-parented, Once, once-grown, place-of, Parented, parented-grown, place-snoc, place-other, grow-extends, insertAll-append, insertAll-extends, extends-length}
 use Rattle.index.proofs.CountLaws.{length-roots}
@@ -447,7 +447,7 @@ pub record Between (n : ℕ) (a₀ : List ℕ) (ks : List Key) (marks : List Mar
   pub next : s .next ≡ length ks
 
 -- a path's bits are the value's
-path-bit : (bytes : List ℕ) → Sound bytes → (f : ℕ) → f < 5 → (j : ℕ) → j < length (pathOf bytes f)
+path-bit : (bytes : List ℕ) → SoundRule bytes → (f : ℕ) → f < 5 → (j : ℕ) → j < length (pathOf bytes f)
     → bitOf (fieldAt f .width) (valueIn bytes (fieldAt f)) j ≡ digit (getD (pathOf bytes f) j false)
 unfolding pathOf
 path-bit bytes sound f hf j h =
@@ -464,7 +464,7 @@ path-bit bytes sound f hf j h =
 
 -- rule i's path goes into field f
 module _ (n : ℕ) (a₀ : List ℕ) (ks : List Key) (marks : List Mark) (s : State) (t : Between n a₀ ks marks s) (i : ℕ) (h : i < n) (small : n ≤ 256)
-    (f : ℕ) (hf : f < 5) (bytes : List ℕ) (sound : Sound bytes) (room : recordWords * length (insert ks (at f (pathOf bytes f))) ≤ length a₀) where
+    (f : ℕ) (hf : f < 5) (bytes : List ℕ) (sound : SoundRule bytes) (room : recordWords * length (insert ks (at f (pathOf bytes f))) ≤ length a₀) where
   abbrev W : State
   W = walked (fieldAt f .width) (valueIn bytes (fieldAt f)) (lengthIn bytes (fieldAt f)) (mk (s .area) f (s .next))
 
@@ -500,7 +500,7 @@ unfolding insertAll
 insert-last ks l k = insertAll-append ks l (k ∷ [])
 
 module _ (n : ℕ) (a₀ : List ℕ) (ks : List Key) (marks : List Mark) (s : State) (t : Between n a₀ ks marks s) (i : ℕ) (h : i < n) (small : n ≤ 256)
-    (bytes : List ℕ) (sound : Sound bytes) (room : recordWords * length (insertAll ks (oneEach (pathOf bytes) 0 5)) ≤ length a₀) where
+    (bytes : List ℕ) (sound : SoundRule bytes) (room : recordWords * length (insertAll ks (oneEach (pathOf bytes) 0 5)) ≤ length a₀) where
   abbrev keys-to : ℕ → List Key
   keys-to f = insertAll ks (oneEach (pathOf bytes) 0 f)
 

@@ -20,13 +20,13 @@ use Rattle.bits.proofs.EachLaws.{up-snoc}
 use Rattle.rules.specs.Field.{fieldAt, lengthIn}
 use Rattle.rules.specs.Rule.{Rule, ruleOf}
 use Rattle.rules.specs.Match.{ruleAt, noRule}
-use Rattle.rules.specs.Table.{ruleCount, recordAt, rulesOf}
+use Rattle.rules.specs.Table.{ruleCount, recordAt, rulesOf, SoundRule}
 use Rattle.rules.proofs.MatchLaws.{rules-size, rules-at}
 use Rattle.rules.proofs.RuleLaws.{length-fits}
 use Rattle.index.specs.Key.{Key, at, pathsIn}
 use Rattle.index.specs.Keys.{ruleInserts, inserts}
 use Rattle.index.specs.Need.{commonWith, longest, fresh, records}
-use Rattle.index.specs.Steps.{Sound, pathOf}
+use Rattle.index.specs.Steps.{pathOf}
 
 -- ---- one path more
 
@@ -155,7 +155,7 @@ records-all table = ap (records 5) (take-all (ruleCount table) (rulesOf table) (
 
 -- ---- how long
 
-pub length-path : (bytes : List ℕ) → Sound bytes → (f : ℕ) → f < 5 → length (pathOf bytes f) ≡ lengthIn bytes (fieldAt f)
+pub length-path : (bytes : List ℕ) → SoundRule bytes → (f : ℕ) → f < 5 → length (pathOf bytes f) ≡ lengthIn bytes (fieldAt f)
 unfolding pathOf
 length-path bytes s f h = length-prefix (fieldAt f .width) _ (lengthIn bytes (fieldAt f)) (length-fits bytes (s .faultless) f h)
 

@@ -1,24 +1,17 @@
 -- What the inner loops of sizing and writing do, for their contracts. No public statement cites these: proofs/BuildLaws.antt joins them
 -- to the image.
 -- Assumes nothing.
-use mathlib.Core.Path.{_≡_}
 use mathlib.Core.List.{List}
 use Prim.Native.Nat.{ℕ, _*_, _<_}
-use lib.ListN.{length}
 use Rattle.area.specs.Upto.{upto}
 use Rattle.area.specs.Grow.{recordWords, zeroed, State, mk, inserted}
 use Rattle.bits.specs.Path.{Path, prefix}
 use Rattle.rules.specs.Field.{fieldAt, valueIn, lengthIn}
-use Rattle.rules.specs.Table.{recordSize, ruleCount, recordAt, fault}
+use Rattle.rules.specs.Table.{ruleCount, recordAt, SoundRule}
 
--- a rule's bytes that no test refuses
-pub record Sound (bytes : List ℕ) : Type 0 where
-  pub whole : length bytes ≡ recordSize
-  pub faultless : fault bytes ≡ 0
-
--- all of a table's are such
+-- a table whose rules are all sound
 pub record AllSound (table : List ℕ) : Type 0 where
-  pub each : (place : ℕ) → place < ruleCount table → Sound (recordAt table place)
+  pub each : (place : ℕ) → place < ruleCount table → SoundRule (recordAt table place)
 
 -- the path that a rule puts into field f
 unfoldable pub pathOf : List ℕ → ℕ → Path

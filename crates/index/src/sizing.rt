@@ -6,12 +6,12 @@ ghost use lib.ListN.{length, take};
 ghost use Rattle.bits.specs.Path.{common};
 ghost use Rattle.rules.specs.Field.{fieldAt, lengthIn};
 ghost use Rattle.rules.specs.Match.{ruleAt};
-ghost use Rattle.rules.specs.Table.{recordSize, recordAt, rulesOf, ruleCount};
+ghost use Rattle.rules.specs.Table.{recordSize, recordAt, rulesOf, ruleCount, SoundRule};
 ghost use Rattle.index.specs.Key.{at};
 ghost use Rattle.index.specs.Keys.{inserts, ruleInserts};
 ghost use Rattle.index.specs.Need.{longest, fresh, records, need};
 ghost use Rattle.index.specs.Shape.{deskShape};
-ghost use Rattle.index.specs.Steps.{pathOf, Sound, AllSound};
+ghost use Rattle.index.specs.Steps.{pathOf, AllSound};
 
 fn greater(a: usize, b: usize) -> usize
     ensures { λ r. ⌜ r ≡ Prim.Native.Nat.max a b ⌝ }
@@ -21,7 +21,7 @@ fn greater(a: usize, b: usize) -> usize
 
 // What the prefixes of two rules have in common in field f.
 fn common_of(a: &[u8], b: &[u8], f: usize) -> usize
-    requires { ⌜ (f < 5) × Sound (now a) × Sound (now b) ⌝ }
+    requires { ⌜ (f < 5) × SoundRule (now a) × SoundRule (now b) ⌝ }
     ensures { λ r. ⌜ r ≡ common (pathOf (now (a .entry)) f) (pathOf (now (b .entry)) f) ⌝ }
 {
     bits::common_leading(

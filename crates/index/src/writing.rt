@@ -5,15 +5,15 @@ ghost use mathlib.Core.List.{_++_};
 ghost use Prim.Native.Nat.{_+_, _*_, _≤_, _<_};
 ghost use lib.ListN.{length, drop};
 ghost use Rattle.area.specs.Grow.{mk, Ready, Roomy};
-ghost use Rattle.rules.specs.Table.{recordSize, recordAt, rulesOf, ruleCount};
+ghost use Rattle.rules.specs.Table.{recordSize, recordAt, rulesOf, ruleCount, SoundRule};
 ghost use Rattle.index.specs.Shape.{deskShape};
 ghost use Rattle.index.specs.Image.{image};
 ghost use Rattle.index.specs.Need.{records, need};
-ghost use Rattle.index.specs.Steps.{Sound, AllSound, fieldIn, ruleIn, rulesIn, allIn};
+ghost use Rattle.index.specs.Steps.{AllSound, fieldIn, ruleIn, rulesIn, allIn};
 
 // Rule i's prefix of field f goes in.
 fn field_in(rule: &[u8], i: usize, f: usize, area: &mut [u32], next: usize) -> usize
-    requires { ⌜ (f < 5) × (i < 256) × Sound (now rule) ⌝ }
+    requires { ⌜ (f < 5) × (i < 256) × SoundRule (now rule) ⌝ }
     requires { ⌜ Ready (mk (now area) 0 next) × Roomy (fieldIn (now rule) i f (mk (now area) 0 next)) (length (now area)) ⌝ }
     ensures { λ r. ⌜ mk (now (area .exit)) 0 r ≡ fieldIn (now (rule .entry)) i f (mk (now (area .entry)) 0 next) ⌝ }
 {
@@ -25,7 +25,7 @@ fn field_in(rule: &[u8], i: usize, f: usize, area: &mut [u32], next: usize) -> u
 
 // Rule i's five prefixes go in.
 fn rule_in(rule: &[u8], i: usize, area: &mut [u32], next: usize) -> usize
-    requires { ⌜ (i < 256) × Sound (now rule) ⌝ }
+    requires { ⌜ (i < 256) × SoundRule (now rule) ⌝ }
     requires { ⌜ Ready (mk (now area) 0 next) × Roomy (ruleIn (now rule) i (mk (now area) 0 next)) (length (now area)) ⌝ }
     ensures { λ r. ⌜ mk (now (area .exit)) 0 r ≡ ruleIn (now (rule .entry)) i (mk (now (area .entry)) 0 next) ⌝ }
 {

@@ -5,3 +5,8 @@ pub mod OrderLaws
 pub mod JudgeLaws
 pub mod MoveLaws
 pub mod TableMoves
+pub mod RecordLaws
+pub mod LoopLaws
+pub mod InverseLaws
+pub mod ObstacleLaws
+pub mod PutLaws

@@ -9,7 +9,7 @@ use lib.Dec.{eqb, leb}
 use lib.ListN.{getD, drop, List·getD-map}
 use borrow.Author.Tests.{leb-true, eqb-true}
 use Rattle.bits.specs.Tests.{any, all, upFrom}
-use Rattle.bits.proofs.TestLaws.{and-trues, all-up, any-from, none-at}
+use Rattle.bits.proofs.TestLaws.{and-trues, all-up, any-from, all-from, none-at}
 use Rattle.rules.specs.Field.{Field, fields, fieldAt}
 
 -- the value stands in whole bytes within the first 13, and the length at byte 13 + f
@@ -59,3 +59,14 @@ module _ (test : Field → Bool) (f : ℕ) (inside : f < 5) where
 
   pub field-none : any test fields ≡ false → test (fieldAt f) ≡ false
   field-none e = none-at test fields (fieldAt 5) f e inside
+
+  -- the same where every field is to pass
+
+  all-turn : all test (drop f fields) ≡ (test (fieldAt f) && all test (drop (f + 1) fields))
+  all-turn = all-from test fields (fieldAt 5) f inside
+
+  pub field-fails : test (fieldAt f) ≡ false → all test (drop f fields) ≡ false
+  field-fails e = all-turn ∙ ap (λ t. t && all test (drop (f + 1) fields)) e
+
+  pub field-passes : test (fieldAt f) ≡ true → all test (drop f fields) ≡ all test (drop (f + 1) fields)
+  field-passes e = all-turn ∙ ap (λ t. t && all test (drop (f + 1) fields)) e

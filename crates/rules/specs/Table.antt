@@ -70,6 +70,11 @@ firstFailed (t ∷ ts) bytes = cond (t .fails bytes) (t .number) (firstFailed ts
 unfoldable pub fault : List ℕ → ℕ
 fault bytes = firstFailed ruleTests bytes
 
+-- a whole record that is not at fault
+pub record SoundRule (bytes : List ℕ) : Type 0 where
+  pub whole : length bytes ≡ recordSize
+  pub faultless : fault bytes ≡ 0
+
 -- what is said of the rule at a place: its fault with the place, or done
 unfoldable pub ruleSaid : ℕ → List ℕ → List ℕ
 ruleSaid place bytes = cond (eqb (fault bytes) 0) (0 ∷ []) (fault bytes ∷ place ∷ [])

@@ -1,0 +1,231 @@
+-- Loops over pairs, in the code's `i + 1`: a row is its first pair and the row after it, all pairs from a place on are that place's row and
+-- the pairs after it; so what is kept of them, and what is written of that, comes in the same two parts.
+-- Assumes nothing.
+use mathlib.Core.Path.{_≡_, refl, sym, ap, _∙_}
+use mathlib.Core.Logic.{⊎-elim}
+use mathlib.Core.Bool.{Bool, true, false}
+use mathlib.Core.List.{List, [], _∷_, _++_}
+use Prim.Native.Nat.{ℕ, zero, suc, _+_, _-_, _*_, _^_, _≤_, _<_}
+use native.Mathlib.Nat.{add-zero, add-suc, suc-add}
+use native.Mathlib.Numerals.{add-one}
+use native.Mathlib.Omega.{arith}
+use lib.ListN.{length, set, drop, length-append}
+use lib.Seq.{sets, length-sets, sets-eq}
+use Rattle.bits.proofs.TestLaws.{decided}
+use Rattle.rules.specs.Table.{ruleCount, rulesOf, Accepted}
+use Rattle.rules.proofs.TableLaws.{accepted-sound}
+use Rattle.rules.proofs.MatchLaws.{rules-size}
+use Rattle.overlap.specs.Pairs.{Pair, row, triangle, keep, listed, onPair, pairsOf, flat}
+use Rattle.overlap.specs.Steps.{Writes}
+use Rattle.overlap.proofs.TriangleLaws.{pair, keep-here, keep-later}
+
+-- ---- what is left
+
+pub row-turn : (n i j : ℕ) → j < n → row i j (n - j) ≡ row i j 1 ++ row i (j + 1) (n - (j + 1))
+unfolding row
+row-turn n i j h =
+    let s : n - j ≡ suc (n - (j + 1)) = omega arith in
+    ap (row i j) s ∙ ap (λ (k : ℕ). row i j 1 ++ row i k (n - (j + 1))) (sym (add-one j))
+
+pub row-over : (n i j : ℕ) → n ≤ j → row i j (n - j) ≡ []
+unfolding row
+row-over n i j h = let z : n - j ≡ 0 = omega arith in ap (row i j) z
+
+pub triangle-turn : (n i : ℕ) → i < n → triangle i (n - i) ≡ row i (i + 1) (n - (i + 1)) ++ triangle (i + 1) (n - (i + 1))
+unfolding triangle
+triangle-turn n i h =
+    let s : n - i ≡ suc (n - (i + 1)) = omega arith in
+    ap (triangle i) s ∙ ap (λ (k : ℕ). row i k (n - (i + 1)) ++ triangle k (n - (i + 1))) (sym (add-one i))
+
+pub triangle-over : (n i : ℕ) → n ≤ i → triangle i (n - i) ≡ []
+unfolding triangle
+triangle-over n i h = let z : n - i ≡ 0 = omega arith in ap (triangle i) z
+
+keep-append : {A : Type 0} (test : A → Bool) (xs ys : List A) → keep test (xs ++ ys) ≡ keep test xs ++ keep test ys
+unfolding keep
+keep-append test [] ys = refl
+keep-append test (x ∷ xs) ys =
+    ⊎-elim
+    (λ e. keep-here test x (xs ++ ys) e ∙ ap (λ l. x ∷ l) (keep-append test xs ys) ∙ sym (ap (λ l. l ++ keep test ys) (keep-here test x xs e)))
+    (λ e. keep-later test x (xs ++ ys) e ∙ keep-append test xs ys ∙ sym (ap (λ l. l ++ keep test ys) (keep-later test x xs e)))
+    (decided (test x))
+
+keep-few : {A : Type 0} (test : A → Bool) (xs : List A) → length (keep test xs) ≤ length xs
+unfolding keep
+keep-few test [] = omega arith
+keep-few test (x ∷ xs) =
+    ⊎-elim
+    (λ e. omega (arith, ap length (keep-here test x xs e), keep-few test xs))
+    (λ e. omega (arith, ap length (keep-later test x xs e), keep-few test xs))
+    (decided (test x))
+
+-- ---- what is kept of it
+
+module _ (test : Pair → Bool) (n : ℕ) where
+  kept-row : (i j : ℕ) → j < n → keep test (row i j (n - j)) ≡ keep test (row i j 1) ++ keep test (row i (j + 1) (n - (j + 1)))
+  kept-row i j h = ap (keep test) (row-turn n i j h) ∙ keep-append test (row i j 1) (row i (j + 1) (n - (j + 1)))
+
+  kept-row-over : (i j : ℕ) → n ≤ j → keep test (row i j (n - j)) ≡ []
+  unfolding keep
+  kept-row-over i j h = ap (keep test) (row-over n i j h)
+
+  kept-rows : (i : ℕ) → i < n
+      → keep test (triangle i (n - i)) ≡ keep test (row i (i + 1) (n - (i + 1))) ++ keep test (triangle (i + 1) (n - (i + 1)))
+  kept-rows i h = ap (keep test) (triangle-turn n i h) ∙ keep-append test (row i (i + 1) (n - (i + 1))) (triangle (i + 1) (n - (i + 1)))
+
+  kept-rows-over : (i : ℕ) → n ≤ i → keep test (triangle i (n - i)) ≡ []
+  unfolding keep
+  kept-rows-over i h = ap (keep test) (triangle-over n i h)
+
+-- one pair is kept or not
+module _ (test : Pair → Bool) (i j : ℕ) where
+  kept-one : test (pair i j) ≡ true → keep test (row i j 1) ≡ pair i j ∷ []
+  unfolding row keep
+  kept-one e = keep-here test (pair i j) [] e
+
+  kept-none : test (pair i j) ≡ false → keep test (row i j 1) ≡ []
+  unfolding row keep
+  kept-none e = keep-later test (pair i j) [] e
+
+-- how many
+
+module _ (test : Pair → Bool) (n i j : ℕ) where
+  pub count-row : j < n → length (keep test (row i j (n - j))) ≡ length (keep test (row i j 1)) + length (keep test (row i (j + 1) (n - (j + 1))))
+  count-row h = ap length (kept-row test n i j h) ∙ length-append (keep test (row i j 1)) (keep test (row i (j + 1) (n - (j + 1))))
+
+  pub count-over : n ≤ j → length (keep test (row i j (n - j))) ≡ 0
+  count-over h = ap length (kept-row-over test n i j h)
+
+module _ (test : Pair → Bool) (i j : ℕ) where
+  pub count-one : test (pair i j) ≡ true → length (keep test (row i j 1)) ≡ 1
+  count-one e = ap length (kept-one test i j e)
+
+  pub count-none : test (pair i j) ≡ false → length (keep test (row i j 1)) ≡ 0
+  count-none e = ap length (kept-none test i j e)
+
+module _ (test : Pair → Bool) (n i : ℕ) where
+  pub count-rows : i < n
+      → length (keep test (triangle i (n - i))) ≡ length (keep test (row i (i + 1) (n - (i + 1)))) + length (keep test (triangle (i + 1) (n - (i + 1))))
+  count-rows h = ap length (kept-rows test n i h) ∙ length-append (keep test (row i (i + 1) (n - (i + 1)))) (keep test (triangle (i + 1) (n - (i + 1))))
+
+  pub count-rows-over : n ≤ i → length (keep test (triangle i (n - i))) ≡ 0
+  count-rows-over h = ap length (kept-rows-over test n i h)
+
+-- all pairs of a table
+pub pairs-all : (table : List ℕ) → keep (onPair listed (rulesOf table)) (triangle 0 (ruleCount table - 0)) ≡ pairsOf (rulesOf table)
+unfolding pairsOf
+pairs-all table =
+    let n : ruleCount table - 0 ≡ length (rulesOf table) = omega (arith, rules-size table) in
+    ap (λ (k : ℕ). keep (onPair listed (rulesOf table)) (triangle 0 k)) n
+
+row-size : (i j n : ℕ) → length (row i j n) ≡ n
+unfolding row
+row-size i j zero = refl
+row-size i j (suc n) = ap suc (row-size i (suc j) n)
+
+pub row-few : (test : Pair → Bool) (i j n : ℕ) → length (keep test (row i j n)) ≤ n
+row-few test i j n = omega (arith, keep-few test (row i j n), row-size i j n)
+
+-- so a table of at most 256 rules has at most 2 ^ 16 pairs
+triangle-few : (k n : ℕ) → n ≤ 256 → length (triangle k n) ≤ 256 * n
+unfolding triangle
+triangle-few k zero h = omega arith
+triangle-few k (suc n) h =
+    omega (arith, length-append (row k (suc k) n) (triangle (suc k) n), row-size k (suc k) n, triangle-few (suc k) n (omega arith))
+
+pub pairs-few : (table : List ℕ) → Accepted table → length (pairsOf (rulesOf table)) ≤ 2 ^ 16
+unfolding pairsOf
+pairs-few table ok =
+    let n = length (rulesOf table) in
+    let few : n ≤ 256 = omega (arith, rules-size table, accepted-sound table ok .few) in
+    omega (arith, keep-few (onPair listed (rulesOf table)) (triangle 0 n), triangle-few 0 n few)
+
+-- ---- what is written
+
+flat-append : (ps qs : List Pair) → flat (ps ++ qs) ≡ flat ps ++ flat qs
+unfolding flat
+flat-append [] qs = refl
+flat-append (p ∷ ps) qs = ap (λ (l : List ℕ). p .lower ∷ p .higher ∷ l) (flat-append ps qs)
+
+pub flat-size : (ps : List Pair) → length (flat ps) ≡ 2 * length ps
+unfolding flat
+flat-size [] = refl
+flat-size (p ∷ ps) = omega (arith, flat-size ps)
+
+sets-append : (vs ws l : List ℕ) (i : ℕ) → sets l i (vs ++ ws) ≡ sets (sets l i vs) (i + length vs) ws
+sets-append [] ws l i = ap (λ (k : ℕ). sets l k ws) (sym (add-zero i))
+sets-append (v ∷ vs) ws l i =
+    sets-append vs ws (set l i v) (suc i)
+    ∙ ap (λ (k : ℕ). sets (sets (set l i v) (suc i) vs) k ws) (suc-add i (length vs) ∙ sym (add-suc i (length vs)))
+
+-- the words of what is left
+module _ (test : Pair → Bool) (n : ℕ) where
+  pub flat-row : (i j : ℕ) → j < n → flat (keep test (row i j (n - j))) ≡ flat (keep test (row i j 1)) ++ flat (keep test (row i (j + 1) (n - (j + 1))))
+  flat-row i j h = ap flat (kept-row test n i j h) ∙ flat-append (keep test (row i j 1)) (keep test (row i (j + 1) (n - (j + 1))))
+
+  pub flat-row-over : (i j : ℕ) → n ≤ j → flat (keep test (row i j (n - j))) ≡ []
+  unfolding flat
+  flat-row-over i j h = ap flat (kept-row-over test n i j h)
+
+  pub flat-rows : (i : ℕ) → i < n
+      → flat (keep test (triangle i (n - i))) ≡ flat (keep test (row i (i + 1) (n - (i + 1)))) ++ flat (keep test (triangle (i + 1) (n - (i + 1))))
+  flat-rows i h = ap flat (kept-rows test n i h) ∙ flat-append (keep test (row i (i + 1) (n - (i + 1)))) (keep test (triangle (i + 1) (n - (i + 1))))
+
+  pub flat-rows-over : (i : ℕ) → n ≤ i → flat (keep test (triangle i (n - i))) ≡ []
+  unfolding flat
+  flat-rows-over i h = ap flat (kept-rows-over test n i h)
+
+-- one pair's words
+module _ (test : Pair → Bool) (i j : ℕ) where
+  pub flat-one : test (pair i j) ≡ true → flat (keep test (row i j 1)) ≡ i ∷ j ∷ []
+  unfolding flat
+  flat-one e = ap flat (kept-one test i j e)
+
+  pub flat-none : test (pair i j) ≡ false → flat (keep test (row i j 1)) ≡ []
+  unfolding flat
+  flat-none e = ap flat (kept-none test i j e)
+
+pub writes-two : (list : List ℕ) (at i j : ℕ) → Writes list at (i ∷ j ∷ []) (set (set list at i) (at + 1) j) (at + 2)
+writes-two list at i j = record { written = ap (λ (k : ℕ). set (set list at i) k j) (add-one at); ends = refl }
+
+pub writes-nothing : (list : List ℕ) (at : ℕ) → Writes list at [] list at
+writes-nothing list at = record { written = refl; ends = sym (add-zero at) }
+
+-- the words that are left, written here, are what all were at the start
+pub record Leaves (list : List ℕ) (at : ℕ) (words : List ℕ) (after : List ℕ) (next : ℕ) (rest : List ℕ) : Type 0 where
+  pub same : sets after next rest ≡ sets list at words
+  pub ends : next + length rest ≡ at + length words
+  pub kept : length after ≡ length list
+
+pub leaves-all : (list : List ℕ) (at : ℕ) (words : List ℕ) → Leaves list at words list at words
+leaves-all list at words = record { same = refl; ends = refl; kept = refl }
+
+module _ {list : List ℕ} {at : ℕ} {words : List ℕ} {mid : List ℕ} {from : ℕ} {left : List ℕ} (inv : Leaves list at words mid from left) where
+  -- there is room for the first of them
+  pub leaves-room : (first rest : List ℕ) → left ≡ first ++ rest → at + length words ≤ length list → from + length first ≤ length mid
+  leaves-room first rest parts room = omega (arith, inv .ends, inv .kept, ap length parts, length-append first rest)
+
+  -- which are then written
+  pub leaves-rest : {first after : List ℕ} {next : ℕ} (rest : List ℕ) → left ≡ first ++ rest → Writes mid from first after next → Leaves list at words after next rest
+  leaves-rest {first} {after} {next} rest parts w = record {
+    same =
+        (λ k. sets (w .written k) (w .ends k) rest)
+        ∙ sym (sets-append first rest mid from)
+        ∙ ap (sets mid from) (sym parts)
+        ∙ inv .same;
+    ends = omega (arith, inv .ends, w .ends, ap length parts, length-append first rest);
+    kept = ap length (w .written) ∙ length-sets mid from first ∙ inv .kept;
+  }
+
+  -- none are left
+  pub leaves-none : left ≡ [] → Writes list at words mid from
+  leaves-none over = record {
+    written = sym (ap (sets mid from) over) ∙ inv .same;
+    ends = omega (arith, inv .ends, ap length over);
+  }
+
+-- words written from the front
+pub writes-front : {list words after : List ℕ} {next : ℕ} → length words ≤ length list → Writes list 0 words after next → after ≡ words ++ drop (length words) list
+writes-front {list} {words} room w =
+    let z : 0 + length words ≡ length words = omega arith in
+    w .written ∙ sets-eq words list 0 (rw z room) ∙ ap (λ (k : ℕ). words ++ drop k list) z

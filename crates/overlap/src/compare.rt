@@ -1,0 +1,143 @@
+// Two rules by their records: whether they share a header, whether one covers the other, whether their
+// actions are the same, and the lowest header that they share.
+use rules::Action;
+use rules::Decoded;
+use rules::FIELDS;
+use rules::Header;
+ghost use mathlib.Core.Path.{_≡_};
+ghost use Prim.Native.Nat.{_^_, _<_, max};
+ghost use lib.ListN.{length};
+ghost use Rattle.rules.specs.Field.{fieldAt, valueIn};
+ghost use Rattle.rules.specs.Action.{actionIn, sameAction};
+ghost use Rattle.rules.specs.Refusal.{values};
+ghost use Rattle.rules.specs.Rule.{ruleOf};
+ghost use Rattle.rules.specs.Table.{recordSize, SoundRule};
+ghost use Rattle.rules.specs.Overlap.{spanShare, share, spanCovers, covers, shown};
+ghost use Rattle.overlap.specs.Record.{spanIn, leadsValue};
+
+// The first rule's prefix of field f is a leading part of the second's value.
+fn leads_value(a: &[u8], b: &[u8], f: usize) -> bool
+    requires { ⌜ (f < 5) × SoundRule (now a) × SoundRule (now b) ⌝ }
+    ensures { λ r. ⌜ r ≡ leadsValue (now (a .entry)) (now (b .entry)) (fieldAt f) ⌝ }
+{
+    bits::is_leading(
+        rules::value_of(a, f),
+        rules::length_of(a, f),
+        rules::value_of(b, f),
+        rules::width_of(f),
+    )
+}
+
+// In field f one prefix is a leading part of the other: the shorter one leads the other's value.
+fn field_shares(a: &[u8], b: &[u8], f: usize) -> bool
+    requires { ⌜ (f < 5) × SoundRule (now a) × SoundRule (now b) ⌝ }
+    ensures { λ r. ⌜ r ≡ spanShare (spanIn (now (a .entry)) (fieldAt f)) (spanIn (now (b .entry)) (fieldAt f)) ⌝ }
+{
+    if rules::length_of(a, f) <= rules::length_of(b, f) {
+        leads_value(a, b, f)
+    } else {
+        leads_value(b, a, f)
+    }
+}
+
+// In field f the first prefix is a leading part of the second: it is no longer, and leads its value.
+fn field_covers(a: &[u8], b: &[u8], f: usize) -> bool
+    requires { ⌜ (f < 5) × SoundRule (now a) × SoundRule (now b) ⌝ }
+    ensures { λ r. ⌜ r ≡ spanCovers (spanIn (now (a .entry)) (fieldAt f)) (spanIn (now (b .entry)) (fieldAt f)) ⌝ }
+{
+    if rules::length_of(a, f) <= rules::length_of(b, f) {
+        leads_value(a, b, f)
+    } else {
+        false
+    }
+}
+
+// "Two rules share a header when, in each field, one prefix is a leading part of the other."
+pub fn shares(a: &[u8], b: &[u8]) -> bool
+    requires { ⌜ SoundRule (now a) × SoundRule (now b) ⌝ }
+    ensures { λ r. ⌜ r ≡ share (ruleOf (now (a .entry))) (ruleOf (now (b .entry))) ⌝ }
+{
+    for f in 0..FIELDS {
+        if !field_shares(a, b, f) {
+            return false;
+        }
+    }
+    true
+}
+
+// "One covers another when each of its prefixes is a leading part of the other's."
+pub fn covers(a: &[u8], b: &[u8]) -> bool
+    requires { ⌜ SoundRule (now a) × SoundRule (now b) ⌝ }
+    ensures { λ r. ⌜ r ≡ covers (ruleOf (now (a .entry))) (ruleOf (now (b .entry))) ⌝ }
+{
+    for f in 0..FIELDS {
+        if !field_covers(a, b, f) {
+            return false;
+        }
+    }
+    true
+}
+
+// Both hold, or both deliver to one feed.
+fn same_known(a: Action, b: Action) -> bool
+    ensures { λ r. ⌜ r ≡ sameAction (Decoded.Known a) (Decoded.Known b) ⌝ }
+{
+    match a {
+        Action::Hold => match b {
+            Action::Hold => true,
+            Action::Deliver(_) => false,
+        },
+        Action::Deliver(feed) => match b {
+            Action::Hold => false,
+            Action::Deliver(other) => feed == other,
+        },
+    }
+}
+
+// Known actions are compared; an unknown one is like no known one.
+fn same_decoded(a: Decoded, b: Decoded) -> bool
+    ensures { λ r. ⌜ r ≡ sameAction a b ⌝ }
+{
+    match a {
+        Decoded::Known(first) => match b {
+            Decoded::Known(second) => same_known(first, second),
+            Decoded::Unknown => false,
+        },
+        Decoded::Unknown => match b {
+            Decoded::Known(_) => false,
+            Decoded::Unknown => true,
+        },
+    }
+}
+
+// Whether the two rules have one action.
+pub fn same_action(a: &[u8], b: &[u8]) -> bool
+    requires { ⌜ (length (now a) ≡ recordSize) × (length (now b) ≡ recordSize) ⌝ }
+    ensures { λ r. ⌜ r ≡ sameAction (actionIn (now (a .entry))) (actionIn (now (b .entry))) ⌝ }
+{
+    same_decoded(rules::decode(a[18], a[19]), rules::decode(b[18], b[19]))
+}
+
+// The larger value of field f: of two prefixes that share a header, the longer one's.
+fn larger_value(a: &[u8], b: &[u8], f: usize) -> u32
+    requires { ⌜ (f < 5) × (length (now a) ≡ recordSize) × (length (now b) ≡ recordSize) ⌝ }
+    ensures { λ r. ⌜ (r ≡ max (valueIn (now (a .entry)) (fieldAt f)) (valueIn (now (b .entry)) (fieldAt f))) × (r < 2 ^ (fieldAt f .width)) ⌝ }
+{
+    let first = rules::value_of(a, f);
+    let second = rules::value_of(b, f);
+    if first < second { second } else { first }
+}
+
+// "their lowest shared header: in each field, the value of the longer prefix"
+pub fn shown_header(a: &[u8], b: &[u8]) -> Header
+    requires { ⌜ (length (now a) ≡ recordSize) × (length (now b) ≡ recordSize) ⌝ }
+    ensures { λ r. ⌜ values r ≡ shown (ruleOf (now (a .entry))) (ruleOf (now (b .entry))) ⌝ }
+{
+    Header {
+        source: larger_value(a, b, 0),
+        destination: larger_value(a, b, 1),
+        sport: larger_value(a, b, 2) as u16,
+        dport: larger_value(a, b, 3) as u16,
+        protocol: larger_value(a, b, 4) as u8,
+    }
+}
