@@ -4,4 +4,5 @@ pub mod BuildCallLaws
 pub mod PairsLaws
 pub mod JudgeLaws
 pub mod Determined
+pub mod LookupDetermined
 pub mod WorkedOut

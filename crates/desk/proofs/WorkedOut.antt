@@ -1,20 +1,35 @@
 -- K1 to K12 hold of the definitions, by computation.
 -- Assumes nothing.
 use mathlib.Core.Path.{refl}
-use Rattle.bits.specs.Number.{numberFrom, number, numberAt}
+use mathlib.Core.List.{zipWith, flatten}
+use lib.Count.{trailingZeros}
+use Rattle.bits.specs.Number.{numberFrom, number, numberAt, bytesOf}
 use Rattle.bits.specs.Path.{bits, prefix, leads, stray, samePath, common}
-use Rattle.bits.specs.Word.{wordOf, pack, aggregate}
-use Rattle.bits.specs.Tests.{any, upFrom, lowest}
+use Rattle.bits.specs.Word.{wordOf, pack, bit, aggregate, andAll}
+use Rattle.bits.specs.Tests.{any, all, each, upFrom, lowest, count}
 use Rattle.rules.specs.Field.{valueIn}
-use Rattle.rules.specs.Action.{decoded, actionIn, isUnknown}
-use Rattle.rules.specs.Rule.{ruleOf}
+use Rattle.rules.specs.Action.{decoded, actionIn, isUnknown, sameAction}
+use Rattle.rules.specs.Rule.{has, spanOf, ruleOf}
+use Rattle.rules.specs.Overlap.{spanShare, share, spanCovers, covers, spanLow, shown}
+use Rattle.rules.specs.Refusal.{firstRefusal}
 use Rattle.rules.specs.Table.{recordAt, rulesOf, longPrefix, strayBit, unknownAction, spareBytes, ruleTests, firstFailed, fault, ruleSaid, faulty, placeSaid, rulesSaid, verdict}
+use Rattle.rules.specs.Header.{headerValues}
+use Rattle.rules.specs.Match.{matches, firstMatch, matchesIn, blockOf, deceives, blocksBefore, falseBlocks}
 use Rattle.index.specs.Key.{sameKey, member, placeFrom, hit}
 use Rattle.index.specs.Keys.{grown, grow, stepsFrom, insert, insertAll, ruleInserts, inserts, rootsFrom, keys}
 use Rattle.index.specs.Image.{child, flat, vector, recordOf, image}
 use Rattle.index.specs.Need.{commonWith, longest, fresh, records, need}
+use Rattle.lookup.specs.Said.{actionValues, matchSaid, noMatchSaid}
+use Rattle.lookup.specs.Answer.{winnerSaid, rulesAnswer, answerSaid}
+use Rattle.lookup.specs.Walk.{rowAt, bad, walkFrom, walk, ends, summariesAt, vectorAt}
+use Rattle.lookup.specs.Scan.{scan, meet, resolve}
+use Rattle.lookup.specs.Look.{keysFrom, headerKeys, lookupSteps, foundSaid, stepsSaid, lookSaid}
+use Rattle.overlap.specs.Pairs as pairs
+use Rattle.overlap.specs.Order as orders
+use Rattle.overlap.specs.Judge.{clashes, overtaken, crossing}
+use Rattle.desk.specs.JudgeCall.{valueBytes, orderSaid, outputSaid, crossingSaid, judgeSaid}
 use Rattle.desk.specs.Worked.{AllWorked}
 
 pub worked : AllWorked
-unfolding numberFrom number numberAt bits prefix leads stray samePath common wordOf pack aggregate any upFrom lowest valueIn decoded actionIn isUnknown ruleOf recordAt rulesOf longPrefix strayBit unknownAction spareBytes ruleTests firstFailed fault ruleSaid faulty placeSaid rulesSaid verdict sameKey member placeFrom hit grown grow stepsFrom insert insertAll ruleInserts inserts rootsFrom keys child flat vector recordOf image commonWith longest fresh records need
+unfolding numberFrom number numberAt bits prefix leads stray samePath common wordOf pack aggregate any upFrom lowest valueIn decoded actionIn isUnknown ruleOf recordAt rulesOf longPrefix strayBit unknownAction spareBytes ruleTests firstFailed fault ruleSaid faulty placeSaid rulesSaid verdict sameKey member placeFrom hit grown grow stepsFrom insert insertAll ruleInserts inserts rootsFrom keys child flat vector recordOf image commonWith longest fresh records need each zipWith flatten spanOf spanShare share spanCovers covers spanLow shown sameAction firstRefusal bytesOf pairs.row pairs.triangle pairs.keep pairs.firstOf pairs.listed pairs.onPair pairs.pairsOf pairs.flat orders.member orders.apartBelow orders.isOrder orders.newPlace clashes overtaken crossing valueBytes orderSaid outputSaid crossingSaid judgeSaid trailingZeros bit andAll all count has headerValues matches firstMatch matchesIn blockOf deceives blocksBefore falseBlocks actionValues matchSaid noMatchSaid winnerSaid rulesAnswer answerSaid rowAt bad walkFrom walk ends summariesAt vectorAt scan meet resolve keysFrom headerKeys lookupSteps foundSaid stepsSaid lookSaid
 worked = refl

@@ -2,6 +2,7 @@
 pub mod Show
 pub mod Lent
 pub mod BuildCall
+pub mod LookCall
 pub mod PairsCall
 pub mod JudgeCall
 pub mod Worked

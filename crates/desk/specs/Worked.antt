@@ -8,6 +8,10 @@ use Rattle.rules.specs.Table.{rulesOf, verdict}
 use Rattle.index.specs.Shape.{width, deskShape}
 use Rattle.index.specs.Image.{image}
 use Rattle.index.specs.Need.{need}
+use Rattle.lookup.specs.Answer.{answerSaid}
+use Rattle.lookup.specs.Look.{lookSaid}
+use Rattle.overlap.specs.Pairs.{pairsOf, flat}
+use Rattle.desk.specs.JudgeCall.{judgeSaid}
 
 -- ---- the six rules of 001, Fig. 1: source and destination address carry the two fields, all deliver
 
@@ -51,6 +55,14 @@ unknownThird = R0 ++ R1 ++ R2 ++ twoFields 224 3 224 3 2 100 ++ R4 ++ R5
 abbrev recordIn : List ℕ → ℕ → List ℕ
 recordIn table n = take (width deskShape) (drop (n * width deskShape) (image deskShape (rulesOf table)))
 
+-- a header from a.0.0.1 to b.0.0.1, with ports and protocol 0
+abbrev headerOf : ℕ → ℕ → List ℕ
+headerOf a b = a ∷ 0 ∷ 0 ∷ 1 ∷ b ∷ 0 ∷ 0 ∷ 1 ∷ 0 ∷ 0 ∷ 0 ∷ 0 ∷ 0 ∷ []
+
+-- what the steps over a table's index say of a header
+abbrev lookedIn : List ℕ → List ℕ → List ℕ
+lookedIn table header = lookSaid table (image deskShape (rulesOf table)) header
+
 -- ---- the table
 
 pub record Example : Type 0 where
@@ -69,6 +81,15 @@ examples =
     ∷ example 2 (need deskShape (rulesOf []) ∷ []) (55 ∷ [])
     ∷ example 3 (recordIn sixRules 0) (5 ∷ 9 ∷ 1 ∷ 32 ∷ 0 ∷ 0 ∷ 0 ∷ 0 ∷ 0 ∷ 0 ∷ 0 ∷ [])
     ∷ example 4 (recordIn sixRules 8) (0 ∷ 0 ∷ 1 ∷ 35 ∷ 0 ∷ 0 ∷ 0 ∷ 0 ∷ 0 ∷ 0 ∷ 0 ∷ [])
+    ∷ example 5 (lookedIn sixRules (headerOf 0 128)) (0 ∷ 0 ∷ 1 ∷ 0 ∷ 1 ∷ 10 ∷ [])
+    ∷ example 5 (answerSaid sixRules (headerOf 0 128)) (0 ∷ 0 ∷ 1 ∷ 0 ∷ 1 ∷ 10 ∷ [])
+    ∷ example 6 (lookedIn sixRules (headerOf 224 240)) (0 ∷ 0 ∷ 1 ∷ 2 ∷ 1 ∷ 10 ∷ [])
+    ∷ example 6 (answerSaid sixRules (headerOf 224 240)) (0 ∷ 0 ∷ 1 ∷ 2 ∷ 1 ∷ 10 ∷ [])
+    ∷ example 7 (lookedIn sixRules (headerOf 64 192)) (0 ∷ 1 ∷ 0 ∷ [])
+    ∷ example 7 (answerSaid sixRules (headerOf 64 192)) (0 ∷ 1 ∷ 0 ∷ [])
+    ∷ example 8 (flat (pairsOf (rulesOf sixRules))) (0 ∷ 1 ∷ [])
+    ∷ example 9 (judgeSaid sixRules (0 ∷ 1 ∷ 2 ∷ 3 ∷ 5 ∷ 4 ∷ []) sixRules) (0 ∷ [])
+    ∷ example 10 (judgeSaid sixRules (1 ∷ 0 ∷ 2 ∷ 3 ∷ 4 ∷ 5 ∷ []) sixRules) (13 ∷ 0 ∷ 1 ∷ 0 ∷ 0 ∷ 0 ∷ 0 ∷ 128 ∷ 0 ∷ 0 ∷ 0 ∷ 0 ∷ 0 ∷ 0 ∷ 0 ∷ 0 ∷ [])
     ∷ example 11 (verdict portOfIcmp) (0 ∷ [])
     ∷ example 12 (verdict unknownThird) (5 ∷ 3 ∷ [])
     ∷ []

@@ -5,6 +5,7 @@ use rules::Checked;
 use rules::Refusal;
 ghost use Rattle.desk.specs.BuildCall.{Builds};
 ghost use Rattle.desk.specs.JudgeCall.{Judges};
+ghost use Rattle.desk.specs.LookCall.{Looks};
 ghost use Rattle.desk.specs.PairsCall.{Pairs};
 ghost use Rattle.desk.specs.Show.{Shows};
 
@@ -27,6 +28,14 @@ pub fn build(table: &[u8], area: &mut [u32]) -> Built
     }
     index::write(table, area);
     Built::Done(words)
+}
+
+// A header over any table and any area: the match or no match, with the number of false blocks, or
+// the refusal. Over the index of an accepted table, unchanged, it is what table and header fix.
+pub fn lookup(table: &[u8], area: &[u32], header: &[u8]) -> lookup::Looked
+    ensures { λ r. ⌜ Looks (now (table .entry)) (now (area .entry)) (now (header .entry)) r ⌝ }
+{
+    lookup::look(table, area, header)
 }
 
 pub enum Paired {

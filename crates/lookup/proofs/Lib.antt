@@ -5,4 +5,6 @@ pub mod WalkLaws
 pub mod HeldLaws
 pub mod MatchLaws
 pub mod LookLaws
+pub mod TurnLaws
+pub mod LookedLaws
 pub mod Demand2

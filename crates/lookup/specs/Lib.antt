@@ -5,3 +5,4 @@ pub mod Answer
 pub mod Walk
 pub mod Scan
 pub mod Look
+pub mod InCode
