@@ -5,4 +5,5 @@ pub mod PairsLaws
 pub mod JudgeLaws
 pub mod Determined
 pub mod LookupDetermined
+pub mod Demand3
 pub mod WorkedOut
