@@ -1,19 +1,19 @@
 -- Laws of growing: a step keeps an area ready where there is room, and so does any run of such steps.
 -- Assumes nothing.
-use mathlib.Core.Path.{_≡_, refl, ap, _∙_}
+use mathlib.Core.Path.{_≡_, refl, _∙_}
 use mathlib.Core.Logic.{⊎-elim}
 use mathlib.Core.List.{List}
-use Prim.Native.Nat.{ℕ, zero, suc, _+_, _*_, _/_, _%_, _^_, _≤_, _<_}
+use Prim.Native.Nat.{ℕ, zero, suc, _+_, _*_, _/_, _≤_, _<_}
 use native.Mathlib.Nat.{le-refl, le-trans, eq-or-lt-of-le, eq-zero-or-pos}
 use native.Mathlib.Numerals.{add-one}
 use native.Mathlib.Decide.{le-ind}
 use native.Mathlib.Omega.{arith}
-use lib.ListN.{length, getD, set, length-set}
+use lib.ListN.{length, set, length-set}
 use lib.Seq.{getD-set-other}
 use borrow.Author.Tests.{eq-eqb, ne-eqb}
 use Rattle.bits.specs.Path.{bitOf}
 use Rattle.area.specs.Upto.{upto}
-use Rattle.area.specs.Grow.{recordWords, vectorAt, zeroed, State, mk, made, kid, down, walked, withBit, inserted, Kids, Ready, Roomy}
+use Rattle.area.specs.Grow.{recordWords, vectorAt, State, mk, made, kid, down, walked, withBit, Kids, Ready, Roomy}
 use Rattle.area.proofs.ZeroLaws.{length-zeroed, zeroed-below, zeroed-inside, either-way}
 
 -- ---- one step

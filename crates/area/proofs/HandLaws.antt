@@ -9,7 +9,7 @@ use native.Mathlib.Nat.{le-refl, eq-or-lt-of-le, eq-zero-or-pos}
 use native.Mathlib.Decide.{le-ind}
 use native.Mathlib.Omega.{arith}
 use lib.Bits.{bitOr}
-use lib.ListN.{length, getD, set, length-set}
+use lib.ListN.{length, getD, length-set}
 use lib.Seq.{getD-set-same, getD-set-other}
 use borrow.Author.Tests.{eq-eqb, ne-eqb}
 use Rattle.area.specs.Upto.{upto}

@@ -4,7 +4,7 @@ use crate::VECTOR_AT;
 ghost use mathlib.Core.Path.{_≡_};
 ghost use Prim.Native.Nat.{_+_, _*_, _≤_, _<_};
 ghost use lib.ListN.{length};
-ghost use Rattle.area.specs.Grow.{recordWords, zeroed, State, mk, down, walked, inserted, withBit, Ready, Roomy};
+ghost use Rattle.area.specs.Grow.{recordWords, zeroed, mk, down, walked, inserted, withBit, Ready, Roomy};
 
 // Where a walk stands, and the number of the next record to be made.
 pub struct Spot {

@@ -1,7 +1,7 @@
 -- Laws of numbers as bytes: one byte more, how large a number of few bytes can be, and that bytes fix their number.
 -- Assumes nothing.
 use mathlib.Core.Path.{_≡_, refl, sym, ap, _∙_}
-use mathlib.Core.Bool.{Bool, not, _||_, or-false, or-assoc}
+use mathlib.Core.Bool.{not, _||_, or-false, or-assoc}
 use mathlib.Core.List.{List, [], _∷_, _++_}
 use Prim.Native.Nat.{ℕ, zero, suc, _+_, _*_, _/_, _%_, _^_, _≤_, _<_}
 use native.Mathlib.Nat.{lt-of-lt-of-le, div-add-mod', mod-lt, pow-suc, one-le-pow, mul-assoc, mul-right-comm, add-mul, add-assoc, zero-lt-suc, zero-add}

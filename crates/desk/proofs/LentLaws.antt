@@ -1,7 +1,7 @@
 -- Lent memory: a refusal leaves it unchanged. And the calls that judge the table, then the room, and only then write: the three ways
 -- that they end.
 -- Assumes nothing.
-use mathlib.Core.Path.{_≡_, refl, sym, ap, _∙_}
+use mathlib.Core.Path.{_≡_, sym, ap, _∙_}
 use mathlib.Core.Logic.{⊎-elim}
 use mathlib.Core.List.{List, [], _∷_}
 use Prim.Native.Nat.{ℕ, suc, _≤_, _<_}

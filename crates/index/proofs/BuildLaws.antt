@@ -4,16 +4,16 @@
 use mathlib.Core.Path.{_≡_, refl, sym, ap, ap₂, _∙_, subst}
 use mathlib.Core.Logic.{⊎-elim}
 use mathlib.Core.Bool.{Bool, true, false}
-use mathlib.Core.List.{List, [], _∷_, _++_, map}
-use Prim.Native.Nat.{ℕ, zero, suc, _+_, _-_, _*_, _/_, _%_, _^_, _≤_, _<_}
+use mathlib.Core.List.{List, [], _++_, map}
+use Prim.Native.Nat.{ℕ, zero, suc, _+_, _-_, _*_, _/_, _%_, _≤_, _<_}
 use native.Mathlib.Nat.{le-refl, zero-add}
 use native.Mathlib.Omega.{arith}
 use lib.Bits.{bitOr, or-comm}
-use lib.ListN.{length, getD, take, drop, length-append, length-drop, length-map, List·getD-append}
+use lib.ListN.{length, getD, take, drop, length-append, length-drop, length-map}
 use lib.Seq.{getD-drop, getD-append-add, ext-getD, take-all}
 use Rattle.area.specs.Grow.{recordWords, vectorAt, Kids, State, mk, Roomy}
 use Rattle.area.specs.Hand.{blocks, vectorWord, childWord, handed}
-use Rattle.area.specs.Sums.{aggregateAt, sumAt, summed}
+use Rattle.area.specs.Sums.{sumAt, summed}
 use Rattle.area.proofs.HandLaws.{Forest, sweep-kids, sweep-length, sweep-root, sweep-child, sweep-beyond}
 use Rattle.area.proofs.SumLaws.{sum-word, summed-length, summed-other, summed-beyond, summed-at}
 use Rattle.bits.specs.Tests.{upFrom}
@@ -23,17 +23,17 @@ use Rattle.bits.proofs.ListLaws.{map-map}
 use Rattle.bits.proofs.EachLaws.{listed, map-agree, up-size, up-at}
 use Rattle.rules.specs.Rule.{Rule}
 use Rattle.rules.specs.Table.{ruleCount, rulesOf}
-use Rattle.index.specs.Key.{Key, at, member, placeFrom}
+use Rattle.index.specs.Key.{Key, at, member}
 use Rattle.index.specs.Keys.{keys}
 use Rattle.index.specs.Shape.{deskShape}
 use Rattle.index.specs.Image.{child, vector, recordOf, image}
 use Rattle.index.specs.Need.{records, need}
 use Rattle.index.specs.Steps.{AllSound, allIn}
 use Rattle.index.proofs.KeyLaws.{noKey, further, further-same, root-or-further, Stands, stands-here, place-in, place-out}
-use Rattle.index.proofs.OrderLaws.{keys-once, keys-parented, keys-field, place-of, child-later}
+use Rattle.index.proofs.OrderLaws.{keys-once, keys-parented, keys-field, place-of}
 use Rattle.index.proofs.CountLaws.{records-law}
 use Rattle.index.proofs.VectorLaws.{ownVector, length-vector, vector-root, vector-word}
-use Rattle.index.proofs.ImageLaws.{one-level-sized, length-image, record-child, record-summary, record-vector, image-word}
+use Rattle.index.proofs.ImageLaws.{one-level-sized, length-image, image-word}
 use Rattle.index.proofs.Growth.{Between, all-between, marksTo, further-root, stands-same, digit-small}
 use Rattle.index.proofs.MarkLaws.{own-word}
 

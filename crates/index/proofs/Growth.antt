@@ -2,7 +2,7 @@
 -- and ends there, and beyond the records what was there before. One step, one path, one rule, all rules.
 -- Assumes nothing.
 use mathlib.Core.Path.{_≡_, refl, sym, ap, ap₂, _∙_, subst}
-use mathlib.Core.Logic.{_⊎_, inl, inr, ⊎-elim}
+use mathlib.Core.Logic.{_⊎_, ⊎-elim}
 use mathlib.Core.Bool.{Bool, true, false, _&&_, _||_, or-false, or-true, and-false}
 use mathlib.Core.List.{List, [], _∷_, _++_, map, append-nil, append-assoc, map-append}
 use Prim.Native.Nat.{ℕ, zero, suc, _+_, _-_, _*_, _/_, _%_, _^_, _≤_, _<_}
@@ -38,7 +38,7 @@ use Rattle.index.specs.Keys.{grown, grow, stepsFrom, insert, insertAll, 
 use Rattle.index.specs.Image.{child}
 use Rattle.index.specs.Steps.{AllSound, pathOf, fieldIn, ruleIn, rulesIn, cleared, allIn}
 use Rattle.index.proofs.KeyLaws.{further, noKey, sameKey-eq, sameKey-refl, sameKey-ne, longer, further-same, Stands, stands-append, stands-snoc, stands-member, place-in, place-out, grown-old, grown-new, below-beyond, roots-member, Rooted, roots-rooted}
-use Rattle.index.proofs.OrderLaws.{keys-once, keys-parented, Once, once-grown, place-of, Parented, parented-grown, place-snoc, place-other, grow-extends, insertAll-append, insertAll-extends, extends-length}
+use Rattle.index.proofs.OrderLaws.{keys-once, keys-parented, Once, once-grown, Parented, parented-grown, place-snoc, place-other, grow-extends, insertAll-append, insertAll-extends, extends-length}
 use Rattle.index.proofs.CountLaws.{length-roots}
 use Rattle.index.proofs.NeedLaws.{oneEach, each-more, rule-inserts, inserts-more, length-path}
 

@@ -2,13 +2,13 @@
 -- Assumes nothing.
 use mathlib.Core.Path.{_≡_, refl, sym, ap, ap₂, _∙_}
 use mathlib.Core.Logic.{⊎-elim}
-use mathlib.Core.Bool.{Bool, true, false, _&&_, _||_, or-false}
-use mathlib.Core.List.{List, [], _∷_, _++_, map}
+use mathlib.Core.Bool.{Bool, false, _&&_, _||_, or-false}
+use mathlib.Core.List.{List, map}
 use Prim.Native.Nat.{ℕ, zero, suc, _≤_, _<_, zero-le}
 use native.Mathlib.Nat.{zero-add, le-refl}
 use native.Mathlib.Omega.{arith}
 use lib.Dec.{eqb}
-use lib.ListN.{length, getD}
+use lib.ListN.{getD}
 use borrow.Author.Tests.{eq-eqb, ne-eqb}
 use Rattle.bits.specs.Path.{samePath}
 use Rattle.bits.specs.Tests.{any, upFrom}
@@ -20,7 +20,7 @@ use Rattle.rules.specs.Rule.{Rule, ruleOf}
 use Rattle.rules.specs.Match.{ruleAt}
 use Rattle.rules.specs.Table.{ruleCount, recordAt, rulesOf}
 use Rattle.rules.proofs.MatchLaws.{rules-at}
-use Rattle.index.specs.Key.{Key, sameKey, pathsIn}
+use Rattle.index.specs.Key.{Key, sameKey}
 use Rattle.index.specs.Keys.{ruleInserts}
 use Rattle.index.specs.Shape.{deskShape}
 use Rattle.index.proofs.KeyLaws.{passes, rule-passes}

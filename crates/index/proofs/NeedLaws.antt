@@ -4,12 +4,12 @@ use mathlib.Core.Path.{_≡_, refl, sym, ap, ap₂, _∙_}
 use mathlib.Core.Logic.{_⊎_, inl, inr, ⊎-elim}
 use mathlib.Core.Bool.{Bool, true, false, Bool·beq}
 use mathlib.Core.List.{List, [], _∷_, _++_, map, append-assoc, append-nil, map-append}
-use Prim.Native.Nat.{ℕ, zero, suc, _+_, _-_, _*_, _≤_, _<_, max}
+use Prim.Native.Nat.{ℕ, zero, suc, _+_, _-_, _≤_, _<_, max}
 use native.Mathlib.Nat.{zero-max, max-zero, add-zero, add-assoc, zero-add}
 use native.Mathlib.Numerals.{add-one}
 use native.Mathlib.Omega.{arith}
 use lib.Dec.{eqb}
-use lib.ListN.{length, getD, take}
+use lib.ListN.{length, take}
 use lib.Seq.{take-suc, take-all}
 use borrow.Author.Tests.{eq-eqb, ne-eqb}
 use Rattle.bits.specs.Path.{Path, common}
@@ -23,7 +23,7 @@ use Rattle.rules.specs.Match.{ruleAt, noRule}
 use Rattle.rules.specs.Table.{ruleCount, recordAt, rulesOf, SoundRule}
 use Rattle.rules.proofs.MatchLaws.{rules-size, rules-at}
 use Rattle.rules.proofs.RuleLaws.{length-fits}
-use Rattle.index.specs.Key.{Key, at, pathsIn}
+use Rattle.index.specs.Key.{Key, at}
 use Rattle.index.specs.Keys.{ruleInserts, inserts}
 use Rattle.index.specs.Need.{commonWith, longest, fresh, records}
 use Rattle.index.specs.Steps.{pathOf}

@@ -1,6 +1,6 @@
 -- Laws of the growing steps: each keeps an area ready where there is room, so that a run of them can be taken one after another.
 -- Assumes nothing.
-use mathlib.Core.Path.{_≡_, refl, _∙_}
+use mathlib.Core.Path.{_≡_, _∙_}
 use mathlib.Core.List.{List}
 use Prim.Native.Nat.{ℕ, _+_, _*_, _≤_, _<_}
 use native.Mathlib.Nat.{le-refl}
@@ -9,7 +9,7 @@ use lib.ListN.{length}
 use Rattle.area.specs.Upto.{upto}
 use Rattle.area.specs.Grow.{recordWords, zeroed, State, mk, walked, inserted, Kids, Ready, Roomy}
 use Rattle.area.proofs.ZeroLaws.{length-zeroed, zeroed-inside}
-use Rattle.area.proofs.GrowLaws.{walked-le, walked-ready, bit-kids, bit-length, Kept, Good, state, turn, upto-good}
+use Rattle.area.proofs.GrowLaws.{walked-le, walked-ready, bit-kids, bit-length, Kept, Good, state, upto-good}
 use Rattle.rules.specs.Field.{fieldAt, valueIn, lengthIn}
 use Rattle.rules.specs.Table.{ruleCount, recordAt}
 use Rattle.index.specs.Steps.{fieldIn, ruleIn, rulesIn, cleared, allIn}

@@ -1,7 +1,7 @@
 -- The records in their order: "Records 0 to 4 are the roots of the five fields. Then, rule by rule, field by field, bit by bit from
 -- the top, each step that has no record yet gets the next one."
 -- Assumes nothing.
-use mathlib.Core.Bool.{Bool, true, false}
+use mathlib.Core.Bool.{true, false}
 use mathlib.Core.List.{List, [], _∷_, _++_, map}
 use Prim.Native.Nat.{ℕ, zero, suc}
 use Rattle.bits.specs.Path.{Path}

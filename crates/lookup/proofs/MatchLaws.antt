@@ -1,24 +1,20 @@
 -- Of an accepted table, what the keys of a header hit is what the spans have: the two ways to say that a rule matches agree.
 -- Assumes nothing.
 use mathlib.Core.Path.{_≡_, refl, sym, ap, _∙_}
-use mathlib.Core.Logic.{⊎-elim}
 use mathlib.Core.List.{List, map}
-use Prim.Native.Nat.{ℕ, zero, suc, _+_, _*_, _^_, _≤_, _<_}
-use native.Mathlib.Nat.{zero-add}
+use Prim.Native.Nat.{ℕ, zero, suc, _+_, _^_, _≤_, _<_}
 use native.Mathlib.Omega.{arith}
-use lib.ListN.{length, getD, take, drop, length-map, length-take, List·getD-eq-default}
-use lib.Seq.{getD-take, getD-drop}
+use lib.ListN.{length, getD}
 use Rattle.bits.specs.Number.{Bytes}
 use Rattle.bits.specs.Path.{bits}
 use Rattle.bits.specs.Tests.{all, upFrom}
-use Rattle.bits.proofs.TestLaws.{less}
 use Rattle.bits.proofs.ListLaws.{all-map}
 use Rattle.bits.proofs.EachLaws.{getD-map, all-agree, map-agree}
 use Rattle.rules.specs.Field.{fields, fieldAt, valueIn}
-use Rattle.rules.specs.Rule.{has, Rule, ruleOf}
-use Rattle.rules.specs.Table.{recordSize, ruleCount, recordAt, rulesOf, Accepted}
+use Rattle.rules.specs.Rule.{has, ruleOf}
+use Rattle.rules.specs.Table.{ruleCount, recordAt, rulesOf, Accepted}
 use Rattle.rules.specs.Header.{headerSize, headerValues}
-use Rattle.rules.specs.Match.{matches, nowhere, noRule, ruleAt, matchesIn}
+use Rattle.rules.specs.Match.{matches, noRule, ruleAt, matchesIn}
 use Rattle.rules.proofs.TableLaws.{length-record, accepted-sound}
 use Rattle.rules.proofs.RuleLaws.{value-small, agreement}
 use Rattle.rules.proofs.MatchLaws.{rules-size, rules-at, record-bytes, matches-in}

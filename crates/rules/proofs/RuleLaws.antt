@@ -1,20 +1,20 @@
 -- A rule's spans and paths agree, and so matching is what 01 says: each prefix is a leading part of the header's value.
 -- Assumes nothing.
 use mathlib.Core.Path.{_≡_, sym, ap, subst, _∙_}
-use mathlib.Core.Bool.{Bool, true, false, _||_, or-false}
-use mathlib.Core.List.{List, [], _∷_, map}
-use Prim.Native.Nat.{ℕ, _+_, _*_, _/_, _^_, _≤_, _<_}
+use mathlib.Core.Bool.{false, or-false}
+use mathlib.Core.List.{List, [], _∷_}
+use Prim.Native.Nat.{ℕ, _/_, _^_, _≤_, _<_}
 use native.Mathlib.Omega.{arith}
 use lib.Dec.{ltb}
 use lib.ListN.{length, getD}
 use borrow.Author.Tests.{ltb-false}
 use Rattle.bits.specs.Number.{Bytes, numberAt}
-use Rattle.bits.specs.Path.{Path, bits, prefix, leads, stray}
+use Rattle.bits.specs.Path.{bits, prefix, leads, stray}
 use Rattle.bits.specs.Tests.{any, all, each}
 use Rattle.bits.proofs.NumberLaws.{number-small}
 use Rattle.bits.proofs.EachLaws.{getD-map, each-maps, all-same}
 use Rattle.rules.specs.Field.{Field, fields, fieldAt, valueIn, lengthIn}
-use Rattle.rules.specs.Rule.{Span, has, spanOf, Rule, ruleOf}
+use Rattle.rules.specs.Rule.{Span, has, spanOf, ruleOf}
 use Rattle.rules.specs.Table.{recordSize, longPrefix, strayBit, fault}
 use Rattle.rules.specs.Header.{headerSize, headerValues}
 use Rattle.rules.specs.Match.{matches, nowhere}

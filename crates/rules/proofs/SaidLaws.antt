@@ -1,13 +1,12 @@
 -- What is said fixes the answer: no two refusals, and no two answers of a check or of a reading, say the same.
 -- Assumes nothing.
-use mathlib.Core.Path.{_≡_, refl, sym, ap, ap₂, _∙_}
-use mathlib.Core.List.{List, [], _∷_, _++_}
-use Prim.Native.Nat.{ℕ, zero, suc, _+_}
-use lib.ListN.{getD, take, drop}
+use mathlib.Core.Path.{_≡_, refl, sym, ap, _∙_}
+use mathlib.Core.List.{List, [], _∷_}
+use Prim.Native.Nat.{ℕ, zero, suc}
+use lib.ListN.{getD, drop}
 use Rattle.bits.specs.Number.{number, numberAt, bytesOf}
 use Rattle.bits.proofs.NumberLaws.{number-bytes}
 use Rattle.rules.specs.declared.Header.{Header}
-use Rattle.rules.specs.declared.Crossing.{Crossing}
 use Rattle.rules.specs.declared.Refusal.{Refusal}
 use Rattle.rules.specs.declared.Refusal.the-variants.{RaggedTable, TooManyRules, LongPrefix, StrayBit, UnknownAction, SpareBytes, ShortArea, NotAHeader, DamagedArea, ShortList, NotAnOrder, ShortOutput, NotAllowed}
 use Rattle.rules.specs.declared.Checked.{Checked}

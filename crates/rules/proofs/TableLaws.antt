@@ -1,7 +1,7 @@
 -- Laws of the verdict: what is said of one rule from its tests, one rule more, and what an accepted table is.
 -- Assumes nothing.
-use mathlib.Core.Path.{_≡_, refl, sym, ap, ap₂, _∙_}
-use mathlib.Core.Logic.{_⊎_, inl, inr, ⊎-elim}
+use mathlib.Core.Path.{_≡_, refl, ap}
+use mathlib.Core.Logic.{_⊎_, inl, inr}
 use mathlib.Core.Bool.{Bool, true, false, not, cond, _&&_}
 use mathlib.Core.List.{List, [], _∷_}
 use mathlib.Core.Option.{Option, none, some}
@@ -16,7 +16,6 @@ use Rattle.bits.specs.Tests.{all, lowest}
 use Rattle.bits.proofs.NumberLaws.{number-nonzero}
 use Rattle.bits.proofs.TestLaws.{and-trues, lowest-told, lowest-none, Told, Never}
 use Rattle.rules.specs.declared.Action.{Action}
-use Rattle.rules.specs.declared.Decoded.{Decoded}
 use Rattle.rules.specs.declared.Decoded.the-variants.{Known, Unknown}
 use Rattle.rules.specs.Action.{actionIn, isUnknown}
 use Rattle.rules.specs.Refusal.{firstRefusal}

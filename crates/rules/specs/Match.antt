@@ -7,7 +7,6 @@ use mathlib.Core.Option.{Option, none, some}
 use Prim.Native.Nat.{ℕ, _*_, _/_}
 use lib.ListN.{length, getD, take, drop}
 use Rattle.bits.specs.Tests.{any, all, each, upFrom, lowest, count}
-use Rattle.rules.specs.declared.Decoded.{Decoded}
 use Rattle.rules.specs.declared.Decoded.the-variants.{Unknown}
 use Rattle.rules.specs.Rule.{Span, has, Rule}
 

@@ -6,7 +6,6 @@ use Prim.Native.Nat.{ℕ, zero, suc}
 use lib.ListN.{getD}
 use Rattle.bits.specs.Number.{bytesOf}
 use Rattle.rules.specs.declared.Header.{Header}
-use Rattle.rules.specs.declared.Crossing.{Crossing}
 use Rattle.rules.specs.declared.Refusal.{Refusal}
 use Rattle.rules.specs.declared.Refusal.the-variants.{RaggedTable, TooManyRules, LongPrefix, StrayBit, UnknownAction, SpareBytes, ShortArea, NotAHeader, DamagedArea, ShortList, NotAnOrder, ShortOutput, NotAllowed}
 use Rattle.rules.specs.declared.numbers.Place.{Place}

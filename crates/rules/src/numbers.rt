@@ -1,7 +1,6 @@
 // A refusal in the paper's numbers, for whoever prints it or hands it to another language.
 use crate::Refusal;
 ghost use mathlib.Core.Path.{_≡_};
-ghost use Prim.Native.Nat.{_<_};
 ghost use Rattle.rules.specs.Refusal.{numberOf, placeOf};
 
 // The place that a refusal carries, if it carries one.

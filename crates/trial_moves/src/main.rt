@@ -6,7 +6,6 @@ use libc::STDOUT_FILENO;
 use rules::Crossing;
 use rules::Place;
 use rules::Refusal;
-ghost use mathlib.Core.Path.{_≡_};
 ghost use lib.ListN.{length};
 
 fn main() {

@@ -1,7 +1,6 @@
 -- `words` ends.
 -- Assumes nothing.
 use Prim.Native.Nat.{_-_}
-use native.Mathlib.Omega.{arith}
 use borrow.Author.Needs.{needs}
 use Rattle.trial_build.proofs.words.Statement.{statement}
 use Rattle.trial_build.proofs.words.Tie as tie

@@ -1,7 +1,6 @@
 -- `numbers` ends.
 -- Assumes nothing.
 use Prim.Native.Nat.{_-_}
-use native.Mathlib.Omega.{arith}
 use borrow.Author.Needs.{needs}
 use Rattle.trial_moves.proofs.numbers.Statement.{statement}
 use Rattle.trial_moves.proofs.numbers.Tie as tie

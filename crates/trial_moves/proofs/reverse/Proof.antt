@@ -1,8 +1,7 @@
 -- `reverse` ends, and keeps the order's length.
 -- Assumes nothing.
-use mathlib.Core.Path.{_≡_, refl}
+use mathlib.Core.Path.{_≡_}
 use Prim.Native.Nat.{_-_}
-use native.Mathlib.Omega.{arith}
 use borrow.Author.Needs.{needs}
 use lib.ListN.{length}
 use Rattle.trial_moves.proofs.reverse.Statement.{statement}

@@ -3,7 +3,6 @@
 use mathlib.Core.Path.{_≡_, refl, ap, _∙_}
 use Prim.Native.Nat.{_-_, _≤_}
 use native.Mathlib.Omega.{arith}
-use borrow.Author.Needs.{needs}
 use Rattle.area.specs.Upto.{upto}
 use Rattle.area.specs.Sums.{sumAt}
 use Rattle.area.proofs.SumLaws.{sum-more}

@@ -4,7 +4,6 @@ use mathlib.Core.Path.{_≡_, refl}
 use Prim.Native.Nat.{_-_, _≤_}
 use native.Mathlib.Omega.{arith}
 use lib.ListN.{length, length-set}
-use borrow.Author.Needs.{needs}
 use Rattle.area.specs.Upto.{upto}
 use Rattle.area.specs.Sums.{summed}
 use Rattle.area.proofs.SumLaws.{summed-more}

@@ -4,7 +4,6 @@ use mathlib.Core.Path.{_≡_, refl, sym, ap, ap₂, _∙_}
 use Prim.Native.Nat.{ℕ, _+_, _-_, _*_, _≤_}
 use native.Mathlib.Omega.{arith}
 use lib.ListN.{take}
-use borrow.Author.Needs.{needs}
 use denote.Ref.{now}
 use Rattle.rules.specs.Table.{rulesOf, ruleCount}
 use Rattle.index.specs.Need.{records}

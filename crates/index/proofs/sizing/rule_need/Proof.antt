@@ -1,11 +1,10 @@
 -- `rule_need` meets its contract. The loop's invariant: `sum` is what the first f fields add.
 -- Assumes nothing.
-use mathlib.Core.Path.{_≡_, refl, sym, ap, ap₂, _∙_}
+use mathlib.Core.Path.{_≡_, refl, sym, ap, _∙_}
 use mathlib.Core.List.{List}
 use Prim.Native.Nat.{ℕ, _+_, _-_, _*_, _≤_, _<_}
 use native.Mathlib.Omega.{arith}
 use lib.ListN.{length, take}
-use borrow.Author.Needs.{needs}
 use denote.Ref.{now}
 use Rattle.bits.specs.Tests.{upFrom}
 use Rattle.rules.specs.Field.{fieldAt, lengthIn}
@@ -14,7 +13,7 @@ use Rattle.rules.proofs.FieldLaws.{field-sound}
 use Rattle.rules.proofs.RuleLaws.{length-fits}
 use Rattle.index.specs.Key.{at}
 use Rattle.index.specs.Keys.{inserts}
-use Rattle.index.specs.Need.{longest, fresh}
+use Rattle.index.specs.Need.{fresh}
 use Rattle.index.specs.Steps.{pathOf}
 use Rattle.index.proofs.NeedLaws.{oneEach, rule-inserts, field-adds, length-path, longest-le}
 use Rattle.index.proofs.sizing.rule_need.Statement.{statement}

@@ -1,6 +1,5 @@
 -- `words_needed` meets its contract.
 -- Assumes nothing.
-use native.Mathlib.Omega.{arith}
 use borrow.Author.Needs.{needs}
 use Rattle.index.specs.Need.{need}
 use Rattle.index.proofs.sizing.words_needed.Statement.{statement}

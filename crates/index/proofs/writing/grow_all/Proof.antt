@@ -2,8 +2,6 @@
 -- Assumes nothing.
 use native.Mathlib.Omega.{arith}
 use borrow.Author.Needs.{needs}
-use denote.Ref.{now}
-use Rattle.area.specs.Grow.{mk}
 use Rattle.index.specs.Steps.{cleared, allIn}
 use Rattle.index.proofs.StepLaws.{room-roots, all-start}
 use Rattle.index.proofs.writing.grow_all.Statement.{statement}

@@ -1,10 +1,9 @@
 -- `rule_in` meets its contract. The loop's invariant: the first f fields are in.
 -- Assumes nothing.
-use mathlib.Core.Path.{_≡_, refl, sym, ap, _∙_}
+use mathlib.Core.Path.{_≡_, sym, ap, _∙_}
 use Prim.Native.Nat.{ℕ, _-_, _≤_}
 use native.Mathlib.Omega.{arith}
 use lib.ListN.{length}
-use borrow.Author.Needs.{needs}
 use denote.Ref.{now}
 use Rattle.area.specs.Upto.{upto}
 use Rattle.area.specs.Grow.{State, mk}
