@@ -6,6 +6,7 @@ pub mod JudgeLaws
 pub mod MoveLaws
 pub mod TableMoves
 pub mod RecordLaws
+pub mod ListedHeaders
 pub mod LoopLaws
 pub mod InverseLaws
 pub mod ObstacleLaws

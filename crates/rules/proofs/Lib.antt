@@ -8,3 +8,4 @@ pub mod RuleLaws
 pub mod Determined
 pub mod ActionLaws
 pub mod MatchLaws
+pub mod HeaderLaws
