@@ -1,0 +1,28 @@
+-- `fill` ends, and keeps the table's length.
+-- Assumes nothing.
+use mathlib.Core.Path.{_≡_}
+use Prim.Native.Nat.{_-_}
+use borrow.Author.Needs.{needs}
+use lib.ListN.{length}
+use Rattle.bench_lookup.proofs.fill.Statement.{statement}
+use Rattle.bench_lookup.proofs.fill.Tie as tie
+
+abbrev Inv-loop : tie.InvT-loop
+Inv-loop table₀ i₀ table i = length table ≡ length table₀
+
+abbrev μ-loop : tie.MeasureT-loop
+μ-loop table₀ i₀ table i = 256 - i
+
+pub fill-spec : {M : Type 1} → statement M
+fill-spec =
+    tie.close
+    (tie.spec
+    Inv-loop
+    μ-loop
+    (λ c. search needs)
+    (λ c κs. search needs)
+    (λ c. search needs)
+    (λ c. search needs)
+    (λ c. search needs)
+    (λ c. search needs)
+    (λ c. search needs))
