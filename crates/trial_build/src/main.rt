@@ -19,11 +19,11 @@ fn main() {
     all_rules(&table, &mut large);
 }
 
-// 16,384 words, none zero.
-fn large_area() -> [u32; 16384]
-    ensures { λ r. ⌜ 16384 ≡ length r ⌝ }
+// 208,330 words, none zero.
+fn large_area() -> [u32; 208330]
+    ensures { λ r. ⌜ 208330 ≡ length r ⌝ }
 {
-    [7; 16384]
+    [7; 208330]
 }
 
 fn no_rule(table: &[u8], area: &mut [u32]) {
@@ -55,10 +55,34 @@ fn unknown_kind(table: &[u8], area: &mut [u32]) {
     words(area);
 }
 
-// 256 rules of full length in the protocol, no two alike there: 515 records.
+// 256 rules of full length in every field, no two with the same first byte in any: 18,939 records.
 fn all_rules(table: &[u8], area: &mut [u32]) {
-    attempt(b"256 protocols, 5664 words", table, 6144, area, 5664);
-    attempt(b"256 protocols, 5665 words", table, 6144, area, 5665);
+    attempt(
+        b"256 rules of full length, 208328 words",
+        table,
+        6144,
+        area,
+        208328,
+    );
+    corners(area);
+    attempt(
+        b"256 rules of full length, 208329 words",
+        table,
+        6144,
+        area,
+        208329,
+    );
+    corners(area);
+}
+
+// The first record, the last one of full length, and the word beyond.
+fn corners(area: &[u32]) {
+    if 208330 <= area.len() {
+        words(&area[0..11]);
+        words(&area[208318..208329]);
+        words(&area[208329..208330]);
+        say(b"\n");
+    }
 }
 
 fn attempt(name: &[u8], table: &[u8], bytes: usize, area: &mut [u32], length: usize) {
@@ -76,8 +100,12 @@ fn full_rules(table: &mut [u8]) {
 fn full_rule(table: &mut [u8], place: usize) {
     let byte = (place % 256) as u8;
     let start = (place % 256) * 24;
-    rule(table, place, 0, 0, 0, 0, byte);
+    rule(table, place, byte, 32, byte, 32, byte);
+    put(table, start + 8, byte);
+    put(table, start + 10, byte);
     put(table, start + 12, byte);
+    put(table, start + 15, 16);
+    put(table, start + 16, 16);
     put(table, start + 17, 8);
 }
 
