@@ -13,7 +13,8 @@ fn main() {
     let mut output = [9u8; 6144];
     six_rules(&mut table);
     pair_lists(&table);
-    orders(&table, &mut output);
+    allowed_orders(&table, &mut output);
+    refused_orders(&table, &mut output);
     bad_orders(&table, &mut output);
     nothing(&table, &mut output);
     alike(&mut table, 1);
@@ -51,7 +52,7 @@ fn counted(count: usize) {
     say(b" pairs");
 }
 
-fn orders(table: &[u8], output: &mut [u8]) {
+fn allowed_orders(table: &[u8], output: &mut [u8]) {
     judged(
         b"left in place",
         table,
@@ -68,6 +69,9 @@ fn orders(table: &[u8], output: &mut [u8]) {
         output,
         145,
     );
+}
+
+fn refused_orders(table: &[u8], output: &mut [u8]) {
     judged(
         b"0 and 1 exchanged",
         table,
