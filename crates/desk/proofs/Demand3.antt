@@ -1,5 +1,5 @@
--- The calls joined. After a build that is done, lookup answers what table and header fix. After a move that is allowed, the output starts with the
--- moved table, and every header gets the same action, or none, from an index of either table.
+-- After a move that is allowed, the output starts with the moved table, and every header gets the same action, or none, from an index of
+-- either table.
 -- Assumes nothing.
 use mathlib.Core.Path.{_≡_, refl, sym, ap, _∙_}
 use mathlib.Core.Logic.{⊎-elim}
@@ -35,16 +35,7 @@ use Rattle.desk.specs.BuildCall.{Builds}
 use Rattle.desk.specs.LookCall.{Looks, actionPart}
 use Rattle.desk.specs.JudgeCall.{judgedSaid, orderSaid, outputSaid, crossingSaid, judgeSaid, judgeLeft, Judges}
 use Rattle.desk.proofs.LentLaws.{done-accepted, done-written}
-use Rattle.desk.proofs.BuildCallLaws.{built-image}
-use Rattle.desk.proofs.LookupDetermined.{lookup-answers}
-
--- ---- build, then lookup
-
-pub build-lookup : {table area after header : List ℕ} {words : ℕ} {r : Looked} → Bytes table → Bytes header → length header ≡ headerSize
-    → Builds table area (built.the-variants.Done words) after → Looks table after header r → lookedSaid r ≡ answerSaid table header
-build-lookup {table = table} {after = after} {header = header} {r = r} b c right done looks =
-    let held = built-image done in
-    lookup-answers table b (held .0) header c right after (held .1) r looks
+use Rattle.desk.proofs.Demand2.{build-lookup}
 
 -- ---- the action of an answer
 

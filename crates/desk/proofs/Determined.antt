@@ -5,10 +5,13 @@ use mathlib.Core.List.{List}
 use Prim.Native.Nat.{ℕ}
 use lib.ListN.{getD}
 use Rattle.rules.proofs.SaidLaws.{answerFrom, answer-refused, one-answer}
+use Rattle.lookup.specs.declared.Looked.{Looked}
+use Rattle.lookup.proofs.LookedLaws.{looked-one}
 use Rattle.desk.specs.declared.Built as built
 use Rattle.desk.specs.declared.Paired as paired
 use Rattle.desk.specs.declared.Judged as judged
 use Rattle.desk.specs.BuildCall.{builtSaid, Builds}
+use Rattle.desk.specs.LookCall.{Looks}
 use Rattle.desk.specs.PairsCall.{pairedSaid, Pairs}
 use Rattle.desk.specs.JudgeCall.{judgedSaid, Judges}
 use Rattle.desk.specs.Show.{Shows}
@@ -29,6 +32,11 @@ build-one {a = a} {b = b} p q = (
   one-answer builtSaid (answerFrom sized built.the-variants.Refused) built-back a b (p .answer ∙ sym (q .answer)),
   p .lent ∙ sym (q .lent),
 )
+
+-- ---- lookup
+
+pub lookup-one : {table area header : List ℕ} {a b : Looked} → Looks table area header a → Looks table area header b → a ≡ b
+lookup-one {a = a} {b = b} p q = looked-one a b (p .answer ∙ sym (q .answer))
 
 -- ---- pairs
 

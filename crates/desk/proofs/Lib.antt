@@ -1,9 +1,9 @@
 -- The promises of the desk, proved.
 pub mod LentLaws
-pub mod BuildCallLaws
+pub mod BuildLaws
 pub mod PairsLaws
 pub mod JudgeLaws
 pub mod Determined
-pub mod LookupDetermined
+pub mod Demand2
 pub mod Demand3
 pub mod WorkedOut

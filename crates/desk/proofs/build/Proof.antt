@@ -9,7 +9,7 @@ use Rattle.rules.specs.Refusal.{checkedSaid}
 use Rattle.rules.specs.Table.{ruleCount, Accepted}
 use Rattle.rules.proofs.TableLaws.{accepted-sound}
 use Rattle.index.specs.Steps.{AllSound}
-use Rattle.desk.proofs.BuildCallLaws.{all-sound, build-refused, build-short, build-done}
+use Rattle.desk.proofs.BuildLaws.{all-sound, build-refused, build-short, build-done}
 use Rattle.desk.proofs.build.Statement.{statement}
 use Rattle.desk.proofs.build.Tie as tie
 

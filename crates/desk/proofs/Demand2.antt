@@ -1,6 +1,6 @@
--- `lookup`'s statement fixes its answer; and over the index of an accepted table, unchanged, that answer is what table and header fix.
+-- Over the index of an accepted table, unchanged, lookup answers what table and header fix; so it does after a build that is done.
 -- Assumes nothing.
-use mathlib.Core.Path.{_≡_, sym, _∙_}
+use mathlib.Core.Path.{_≡_, _∙_}
 use mathlib.Core.List.{List, _∷_}
 use Prim.Native.Nat.{ℕ, _≤_}
 use lib.ListN.{length, take}
@@ -14,13 +14,11 @@ use Rattle.index.specs.Need.{need}
 use Rattle.lookup.specs.declared.Looked.{Looked}
 use Rattle.lookup.specs.Answer.{answerSaid}
 use Rattle.lookup.specs.InCode.{lookedSaid}
-use Rattle.lookup.proofs.LookedLaws.{looked-one}
 use Rattle.lookup.proofs.Demand2.{demand-2, demand-2-done}
+use Rattle.desk.specs.declared.Built as built
+use Rattle.desk.specs.BuildCall.{Builds}
 use Rattle.desk.specs.LookCall.{Looks}
-
--- any two answers that satisfy the statement, for the same table, area and header, are equal
-pub lookup-one : {table area header : List ℕ} {a b : Looked} → Looks table area header a → Looks table area header b → a ≡ b
-lookup-one {a = a} {b = b} p q = looked-one a b (p .answer ∙ sym (q .answer))
+use Rattle.desk.proofs.BuildLaws.{built-image}
 
 -- an area that starts with the index of an accepted table, whatever stands after it, and a header of 13 bytes
 module _ (table : List ℕ) (b : Bytes table) (sound : Accepted table) (header : List ℕ) (c : Bytes header) (right : length header ≡ headerSize) (area : List ℕ)
@@ -34,3 +32,11 @@ module _ (table : List ℕ) (b : Bytes table) (sound : Accepted table) (header :
   lookup-done =
       let done = demand-2-done table b sound header c right area held in
       (done .0, looks .answer ∙ done .1, done .2)
+
+-- ---- build, then lookup
+
+pub build-lookup : {table area after header : List ℕ} {words : ℕ} {r : Looked} → Bytes table → Bytes header → length header ≡ headerSize
+    → Builds table area (built.the-variants.Done words) after → Looks table after header r → lookedSaid r ≡ answerSaid table header
+build-lookup {table = table} {after = after} {header = header} {r = r} b c right done looks =
+    let held = built-image done in
+    lookup-answers table b (held .0) header c right after (held .1) r looks
