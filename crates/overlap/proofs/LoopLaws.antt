@@ -1,5 +1,5 @@
 -- Loops over pairs, in the code's `i + 1`: a row is its first pair and the row after it, all pairs from a place on are that place's row and
--- the pairs after it; so what is kept of them, and what is written of that, comes in the same two parts.
+-- the pairs after it; so what is listed of them, and what is written of that, comes in the same two parts.
 -- Assumes nothing.
 use mathlib.Core.Path.{_≡_, refl, sym, ap, _∙_}
 use mathlib.Core.Logic.{⊎-elim}
@@ -12,11 +12,12 @@ use native.Mathlib.Omega.{arith}
 use lib.ListN.{length, set, drop, length-append}
 use lib.Seq.{sets, length-sets, sets-eq}
 use Rattle.bits.proofs.TestLaws.{decided}
+use Rattle.rules.specs.Match.{ruleAt}
 use Rattle.rules.specs.Table.{ruleCount, rulesOf, Accepted}
 use Rattle.rules.proofs.TableLaws.{accepted-sound}
 use Rattle.rules.proofs.MatchLaws.{rules-size}
 use Rattle.overlap.specs.Pairs.{Pair, row, triangle, keep, listed, onPair, pairsOf, flat}
-use Rattle.overlap.specs.Steps.{Writes}
+use Rattle.overlap.specs.Steps.{listedRow, listedWith, listedFrom, Writes}
 use Rattle.overlap.proofs.TriangleLaws.{pair, keep-here, keep-later}
 
 -- ---- what is left
@@ -59,72 +60,52 @@ keep-few test (x ∷ xs) =
     (λ e. omega (arith, ap length (keep-later test x xs e), keep-few test xs))
     (decided (test x))
 
--- ---- what is kept of it
+-- ---- what is listed of it
 
-module _ (test : Pair → Bool) (n : ℕ) where
-  kept-row : (i j : ℕ) → j < n → keep test (row i j (n - j)) ≡ keep test (row i j 1) ++ keep test (row i (j + 1) (n - (j + 1)))
-  kept-row i j h = ap (keep test) (row-turn n i j h) ∙ keep-append test (row i j 1) (row i (j + 1) (n - (j + 1)))
+module _ (table : List ℕ) where
+  abbrev n : ℕ
+  n = ruleCount table
 
-  kept-row-over : (i j : ℕ) → n ≤ j → keep test (row i j (n - j)) ≡ []
+  abbrev test : Pair → Bool
+  test = onPair listed (rulesOf table)
+
+  pub row-parts : (i j : ℕ) → j < n → listedRow table i j (n - j) ≡ listedRow table i j 1 ++ listedRow table i (j + 1) (n - (j + 1))
+  row-parts i j h = ap (keep test) (row-turn n i j h) ∙ keep-append test (row i j 1) (row i (j + 1) (n - (j + 1)))
+
+  pub row-done : (i j : ℕ) → n ≤ j → listedRow table i j (n - j) ≡ []
   unfolding keep
-  kept-row-over i j h = ap (keep test) (row-over n i j h)
+  row-done i j h = ap (keep test) (row-over n i j h)
 
-  kept-rows : (i : ℕ) → i < n
-      → keep test (triangle i (n - i)) ≡ keep test (row i (i + 1) (n - (i + 1))) ++ keep test (triangle (i + 1) (n - (i + 1)))
-  kept-rows i h = ap (keep test) (triangle-turn n i h) ∙ keep-append test (row i (i + 1) (n - (i + 1))) (triangle (i + 1) (n - (i + 1)))
+  pub rows-parts : (i : ℕ) → i < n → listedFrom table i ≡ listedWith table i ++ listedFrom table (i + 1)
+  rows-parts i h = ap (keep test) (triangle-turn n i h) ∙ keep-append test (row i (i + 1) (n - (i + 1))) (triangle (i + 1) (n - (i + 1)))
 
-  kept-rows-over : (i : ℕ) → n ≤ i → keep test (triangle i (n - i)) ≡ []
+  pub rows-done : (i : ℕ) → n ≤ i → listedFrom table i ≡ []
   unfolding keep
-  kept-rows-over i h = ap (keep test) (triangle-over n i h)
+  rows-done i h = ap (keep test) (triangle-over n i h)
 
--- one pair is kept or not
-module _ (test : Pair → Bool) (i j : ℕ) where
-  kept-one : test (pair i j) ≡ true → keep test (row i j 1) ≡ pair i j ∷ []
-  unfolding row keep
-  kept-one e = keep-here test (pair i j) [] e
+  pub rows-all : listedFrom table 0 ≡ pairsOf (rulesOf table)
+  unfolding pairsOf
+  rows-all = let e : n - 0 ≡ length (rulesOf table) = omega (arith, rules-size table) in ap (λ (k : ℕ). keep test (triangle 0 k)) e
 
-  kept-none : test (pair i j) ≡ false → keep test (row i j 1) ≡ []
-  unfolding row keep
-  kept-none e = keep-later test (pair i j) [] e
+  -- one pair is listed or not
+  module _ (i j : ℕ) where
+    pub one-listed : listed (ruleAt (rulesOf table) i) (ruleAt (rulesOf table) j) ≡ true → listedRow table i j 1 ≡ pair i j ∷ []
+    unfolding row keep onPair
+    one-listed e = keep-here test (pair i j) [] e
 
--- how many
+    pub none-listed : listed (ruleAt (rulesOf table) i) (ruleAt (rulesOf table) j) ≡ false → listedRow table i j 1 ≡ []
+    unfolding row keep onPair
+    none-listed e = keep-later test (pair i j) [] e
 
-module _ (test : Pair → Bool) (n i j : ℕ) where
-  pub count-row : j < n → length (keep test (row i j (n - j))) ≡ length (keep test (row i j 1)) + length (keep test (row i (j + 1) (n - (j + 1))))
-  count-row h = ap length (kept-row test n i j h) ∙ length-append (keep test (row i j 1)) (keep test (row i (j + 1) (n - (j + 1))))
-
-  pub count-over : n ≤ j → length (keep test (row i j (n - j))) ≡ 0
-  count-over h = ap length (kept-row-over test n i j h)
-
-module _ (test : Pair → Bool) (i j : ℕ) where
-  pub count-one : test (pair i j) ≡ true → length (keep test (row i j 1)) ≡ 1
-  count-one e = ap length (kept-one test i j e)
-
-  pub count-none : test (pair i j) ≡ false → length (keep test (row i j 1)) ≡ 0
-  count-none e = ap length (kept-none test i j e)
-
-module _ (test : Pair → Bool) (n i : ℕ) where
-  pub count-rows : i < n
-      → length (keep test (triangle i (n - i))) ≡ length (keep test (row i (i + 1) (n - (i + 1)))) + length (keep test (triangle (i + 1) (n - (i + 1))))
-  count-rows h = ap length (kept-rows test n i h) ∙ length-append (keep test (row i (i + 1) (n - (i + 1)))) (keep test (triangle (i + 1) (n - (i + 1))))
-
-  pub count-rows-over : n ≤ i → length (keep test (triangle i (n - i))) ≡ 0
-  count-rows-over h = ap length (kept-rows-over test n i h)
-
--- all pairs of a table
-pub pairs-all : (table : List ℕ) → keep (onPair listed (rulesOf table)) (triangle 0 (ruleCount table - 0)) ≡ pairsOf (rulesOf table)
-unfolding pairsOf
-pairs-all table =
-    let n : ruleCount table - 0 ≡ length (rulesOf table) = omega (arith, rules-size table) in
-    ap (λ (k : ℕ). keep (onPair listed (rulesOf table)) (triangle 0 k)) n
+-- ---- how many
 
 row-size : (i j n : ℕ) → length (row i j n) ≡ n
 unfolding row
 row-size i j zero = refl
 row-size i j (suc n) = ap suc (row-size i (suc j) n)
 
-pub row-few : (test : Pair → Bool) (i j n : ℕ) → length (keep test (row i j n)) ≤ n
-row-few test i j n = omega (arith, keep-few test (row i j n), row-size i j n)
+pub row-few : (table : List ℕ) (i j n : ℕ) → length (listedRow table i j n) ≤ n
+row-few table i j n = omega (arith, keep-few (onPair listed (rulesOf table)) (row i j n), row-size i j n)
 
 -- so a table of at most 256 rules has at most 2 ^ 16 pairs
 triangle-few : (k n : ℕ) → n ≤ 256 → length (triangle k n) ≤ 256 * n
@@ -142,7 +123,7 @@ pairs-few table ok =
 
 -- ---- what is written
 
-flat-append : (ps qs : List Pair) → flat (ps ++ qs) ≡ flat ps ++ flat qs
+pub flat-append : (ps qs : List Pair) → flat (ps ++ qs) ≡ flat ps ++ flat qs
 unfolding flat
 flat-append [] qs = refl
 flat-append (p ∷ ps) qs = ap (λ (l : List ℕ). p .lower ∷ p .higher ∷ l) (flat-append ps qs)
@@ -157,33 +138,6 @@ sets-append [] ws l i = ap (λ (k : ℕ). sets l k ws) (sym (add-zero i))
 sets-append (v ∷ vs) ws l i =
     sets-append vs ws (set l i v) (suc i)
     ∙ ap (λ (k : ℕ). sets (sets (set l i v) (suc i) vs) k ws) (suc-add i (length vs) ∙ sym (add-suc i (length vs)))
-
--- the words of what is left
-module _ (test : Pair → Bool) (n : ℕ) where
-  pub flat-row : (i j : ℕ) → j < n → flat (keep test (row i j (n - j))) ≡ flat (keep test (row i j 1)) ++ flat (keep test (row i (j + 1) (n - (j + 1))))
-  flat-row i j h = ap flat (kept-row test n i j h) ∙ flat-append (keep test (row i j 1)) (keep test (row i (j + 1) (n - (j + 1))))
-
-  pub flat-row-over : (i j : ℕ) → n ≤ j → flat (keep test (row i j (n - j))) ≡ []
-  unfolding flat
-  flat-row-over i j h = ap flat (kept-row-over test n i j h)
-
-  pub flat-rows : (i : ℕ) → i < n
-      → flat (keep test (triangle i (n - i))) ≡ flat (keep test (row i (i + 1) (n - (i + 1)))) ++ flat (keep test (triangle (i + 1) (n - (i + 1))))
-  flat-rows i h = ap flat (kept-rows test n i h) ∙ flat-append (keep test (row i (i + 1) (n - (i + 1)))) (keep test (triangle (i + 1) (n - (i + 1))))
-
-  pub flat-rows-over : (i : ℕ) → n ≤ i → flat (keep test (triangle i (n - i))) ≡ []
-  unfolding flat
-  flat-rows-over i h = ap flat (kept-rows-over test n i h)
-
--- one pair's words
-module _ (test : Pair → Bool) (i j : ℕ) where
-  pub flat-one : test (pair i j) ≡ true → flat (keep test (row i j 1)) ≡ i ∷ j ∷ []
-  unfolding flat
-  flat-one e = ap flat (kept-one test i j e)
-
-  pub flat-none : test (pair i j) ≡ false → flat (keep test (row i j 1)) ≡ []
-  unfolding flat
-  flat-none e = ap flat (kept-none test i j e)
 
 pub writes-two : (list : List ℕ) (at i j : ℕ) → Writes list at (i ∷ j ∷ []) (set (set list at i) (at + 1) j) (at + 2)
 writes-two list at i j = record { written = ap (λ (k : ℕ). set (set list at i) k j) (add-one at); ends = refl }

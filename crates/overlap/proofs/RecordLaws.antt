@@ -25,7 +25,9 @@ use Rattle.rules.proofs.OverlapLaws.{span-swap, share-leads, covers-leads}
 use Rattle.rules.proofs.TableLaws.{length-record, accepted-sound}
 use Rattle.rules.proofs.MatchLaws.{rules-at}
 use Rattle.rules.proofs.RuleLaws.{value-small, length-fits, no-stray}
-use Rattle.overlap.specs.Record.{spanIn, leadsValue}
+use Rattle.overlap.specs.declared.compare.Relation.{Relation}
+use Rattle.overlap.specs.declared.compare.Relation.the-variants.{Share, Cover}
+use Rattle.overlap.specs.Record.{spanIn, leadsValue, spansRelate, rulesRelate}
 
 -- ---- two prefixes of one width
 
@@ -42,8 +44,9 @@ module _ (w v l x m : ℕ) (hl : l ≤ w) (hm : m ≤ w) (hv : v < 2 ^ w) (hx : 
   leads-short : l ≤ m → leads (prefix w v l) (prefix w x m) ≡ leads (prefix w v l) (bits w x)
   leads-short short = leads-prefix w v l x m hl ∙ ap (λ t. t && leads (prefix w v l) (bits w x)) (le-leb l m short)
 
-  pub share-short : l ≤ m → spanShare (spanOf w v l) (spanOf w x m) ≡ leads (prefix w v l) (bits w x)
-  share-short short =
+  -- where the first prefix is no longer, it decides
+  short-decides : (r : Relation) → l ≤ m → spansRelate r (spanOf w v l) (spanOf w x m) ≡ leads (prefix w v l) (bits w x)
+  short-decides Share short =
       let a = leads (prefix w v l) (prefix w x m) in
       let b = leads (prefix w x m) (prefix w v l) in
       let c = leads (prefix w v l) (bits w x) in
@@ -51,59 +54,65 @@ module _ (w v l x m : ℕ) (hl : l ≤ w) (hm : m ≤ w) (hv : v < 2 ^ w) (hx : 
       ∙ same-test (a || b) c
       (λ e. ⊎-elim (λ h. sym (leads-short short) ∙ h) (λ h. leads-back w v l x m hl hm hv hx short h) (or-trues a b e))
       (λ e. ap (λ t. t || b) (leads-short short ∙ e))
+  short-decides Cover short = covers-leads w v l x m hl hm hv hx cv cx ∙ leads-short short
 
-  pub covers-short : l ≤ m → spanCovers (spanOf w v l) (spanOf w x m) ≡ leads (prefix w v l) (bits w x)
-  covers-short short = covers-leads w v l x m hl hm hv hx cv cx ∙ leads-short short
-
-  pub covers-long : m < l → spanCovers (spanOf w v l) (spanOf w x m) ≡ false
-  covers-long long =
+  -- where it is longer, it covers nothing
+  long-misses : m < l → spanCovers (spanOf w v l) (spanOf w x m) ≡ false
+  long-misses long =
       covers-leads w v l x m hl hm hv hx cv cx
       ∙ leads-prefix w v l x m hl
       ∙ ap (λ t. t && leads (prefix w v l) (bits w x)) (lt-leb l m long)
 
 -- ---- two records in one field
 
+pub record Beside (a b : List ℕ) (f : ℕ) : Type 0 where
+  pub first-bytes : Bytes a
+  pub second-bytes : Bytes b
+  pub first : SoundRule a
+  pub second : SoundRule b
+  pub inside : f < 5
+
 -- a law of two prefixes holds of two records' in a field
 module _ (Says : ℕ → ℕ → ℕ → ℕ → ℕ → Type 0)
     (law : (w v l x m : ℕ) → l ≤ w → m ≤ w → v < 2 ^ w → x < 2 ^ w → stray w v l ≡ false → stray w x m ≡ false → Says w v l x m) where
-  in-field : (a b : List ℕ) → Bytes a → Bytes b → SoundRule a → SoundRule b → (f : ℕ) → f < 5
+  in-field : {a b : List ℕ} {f : ℕ} → Beside a b f
       → Says (fieldAt f .width) (valueIn a (fieldAt f)) (lengthIn a (fieldAt f)) (valueIn b (fieldAt f)) (lengthIn b (fieldAt f))
-  in-field a b ba bb ra rb f h =
+  in-field {a} {b} {f} two =
+      let h = two .inside in
       law (fieldAt f .width) (valueIn a (fieldAt f)) (lengthIn a (fieldAt f)) (valueIn b (fieldAt f)) (lengthIn b (fieldAt f))
-      (length-fits a (ra .faultless) f h) (length-fits b (rb .faultless) f h)
-      (value-small a ba (omega arith) f h) (value-small b bb (omega arith) f h)
-      (no-stray a (ra .faultless) f h) (no-stray b (rb .faultless) f h)
+      (length-fits a (two .first .faultless) f h) (length-fits b (two .second .faultless) f h)
+      (value-small a (two .first-bytes) (omega arith) f h) (value-small b (two .second-bytes) (omega arith) f h)
+      (no-stray a (two .first .faultless) f h) (no-stray b (two .second .faultless) f h)
 
-module _ (a b : List ℕ) (ba : Bytes a) (bb : Bytes b) (ra : SoundRule a) (rb : SoundRule b) (f : ℕ) (h : f < 5) where
-  pub field-short : lengthIn a (fieldAt f) ≤ lengthIn b (fieldAt f) → spanShare (spanIn a (fieldAt f)) (spanIn b (fieldAt f)) ≡ leadsValue a b (fieldAt f)
-  field-short =
-      in-field (λ w v l x m. l ≤ m → spanShare (spanOf w v l) (spanOf w x m) ≡ leads (prefix w v l) (bits w x))
-      share-short a b ba bb ra rb f h
+module _ {a b : List ℕ} {f : ℕ} (two : Beside a b f) where
+  pub field-short : (r : Relation) → lengthIn a (fieldAt f) ≤ lengthIn b (fieldAt f)
+      → spansRelate r (spanIn a (fieldAt f)) (spanIn b (fieldAt f)) ≡ leadsValue a b (fieldAt f)
+  field-short r =
+      in-field (λ w v l x m. l ≤ m → spansRelate r (spanOf w v l) (spanOf w x m) ≡ leads (prefix w v l) (bits w x))
+      (λ w v l x m hl hm hv hx cv cx. short-decides w v l x m hl hm hv hx cv cx r) two
 
-  pub field-over : lengthIn a (fieldAt f) ≤ lengthIn b (fieldAt f) → spanCovers (spanIn a (fieldAt f)) (spanIn b (fieldAt f)) ≡ leadsValue a b (fieldAt f)
-  field-over =
-      in-field (λ w v l x m. l ≤ m → spanCovers (spanOf w v l) (spanOf w x m) ≡ leads (prefix w v l) (bits w x))
-      covers-short a b ba bb ra rb f h
+  pub field-missed : lengthIn b (fieldAt f) < lengthIn a (fieldAt f) → spanCovers (spanIn a (fieldAt f)) (spanIn b (fieldAt f)) ≡ false
+  field-missed = in-field (λ w v l x m. m < l → spanCovers (spanOf w v l) (spanOf w x m) ≡ false) long-misses two
 
-  pub field-not-over : lengthIn b (fieldAt f) < lengthIn a (fieldAt f) → spanCovers (spanIn a (fieldAt f)) (spanIn b (fieldAt f)) ≡ false
-  field-not-over =
-      in-field (λ w v l x m. m < l → spanCovers (spanOf w v l) (spanOf w x m) ≡ false)
-      covers-long a b ba bb ra rb f h
-
-module _ (a b : List ℕ) (ba : Bytes a) (bb : Bytes b) (ra : SoundRule a) (rb : SoundRule b) (f : ℕ) (h : f < 5) where
-  -- the other way round, where the second prefix is the shorter
-  pub field-long : lengthIn b (fieldAt f) < lengthIn a (fieldAt f) → spanShare (spanIn a (fieldAt f)) (spanIn b (fieldAt f)) ≡ leadsValue b a (fieldAt f)
-  field-long long = span-swap (spanIn a (fieldAt f)) (spanIn b (fieldAt f)) ∙ field-short b a bb ba rb ra f h (omega arith)
+-- the other way round, where the second prefix is the shorter
+pub field-long : {a b : List ℕ} {f : ℕ} → Beside a b f → lengthIn b (fieldAt f) < lengthIn a (fieldAt f)
+    → spanShare (spanIn a (fieldAt f)) (spanIn b (fieldAt f)) ≡ leadsValue b a (fieldAt f)
+field-long {a} {b} {f} two long =
+    let turned : Beside b a f = record {
+      first-bytes = two .second-bytes;
+      second-bytes = two .first-bytes;
+      first = two .second;
+      second = two .first;
+      inside = two .inside;
+    } in
+    span-swap (spanIn a (fieldAt f)) (spanIn b (fieldAt f)) ∙ field-short turned Share (omega arith)
 
 -- ---- two records in all fields
 
-pub share-fields : (a b : List ℕ) → share (ruleOf a) (ruleOf b) ≡ all (λ (g : Field). spanShare (spanIn a g) (spanIn b g)) fields
-unfolding share ruleOf
-share-fields a b = each-maps spanShare (spanIn a) (spanIn b) fields
-
-pub covers-fields : (a b : List ℕ) → covers (ruleOf a) (ruleOf b) ≡ all (λ (g : Field). spanCovers (spanIn a g) (spanIn b g)) fields
-unfolding covers ruleOf
-covers-fields a b = each-maps spanCovers (spanIn a) (spanIn b) fields
+pub fields-decide : (r : Relation) (a b : List ℕ) → rulesRelate r (ruleOf a) (ruleOf b) ≡ all (λ (g : Field). spansRelate r (spanIn a g) (spanIn b g)) fields
+unfolding share covers ruleOf
+fields-decide Share a b = each-maps spanShare (spanIn a) (spanIn b) fields
+fields-decide Cover a b = each-maps spanCovers (spanIn a) (spanIn b) fields
 
 -- ---- the record at a place of an accepted table
 

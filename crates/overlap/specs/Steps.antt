@@ -7,7 +7,7 @@ use Prim.Native.Nat.{ℕ, _+_, _-_, _<_}
 use lib.ListN.{length, getD}
 use lib.Seq.{sets}
 use Rattle.rules.specs.Table.{ruleCount, rulesOf}
-use Rattle.overlap.specs.Pairs.{Pair, row, keep, listed, onPair}
+use Rattle.overlap.specs.Pairs.{Pair, row, triangle, keep, listed, onPair}
 use Rattle.overlap.specs.Order.{isOrder, newPlace}
 
 -- the listed pairs of place i with each of the n places from j on
@@ -17,6 +17,10 @@ listedRow table i j n = keep (onPair listed (rulesOf table)) (row i j n)
 -- the listed pairs of place i with the higher places
 abbrev pub listedWith : List ℕ → ℕ → List Pair
 listedWith table i = listedRow table i (i + 1) (ruleCount table - (i + 1))
+
+-- the listed pairs from place i on
+abbrev pub listedFrom : List ℕ → ℕ → List Pair
+listedFrom table i = keep (onPair listed (rulesOf table)) (triangle i (ruleCount table - i))
 
 -- words written one after another from an entry on: the list afterwards, where every other entry keeps its value, and the next entry
 pub record Writes (list : List ℕ) (at : ℕ) (words : List ℕ) (after : List ℕ) (next : ℕ) : Type 0 where

@@ -1,5 +1,5 @@
-// Two rules by their records: whether they share a header, whether one covers the other, whether their
-// actions are the same, and the lowest header that they share.
+// Rules by their records: the one at a place; and of two, whether they share a header, whether one covers the
+// other, whether their actions are the same, and the lowest header that they share.
 use rules::Action;
 use rules::Decoded;
 use rules::FIELDS;
@@ -11,9 +11,24 @@ ghost use Rattle.rules.specs.Field.{fieldAt, valueIn};
 ghost use Rattle.rules.specs.Action.{actionIn, sameAction};
 ghost use Rattle.rules.specs.Refusal.{values};
 ghost use Rattle.rules.specs.Rule.{ruleOf};
-ghost use Rattle.rules.specs.Table.{recordSize, SoundRule};
-ghost use Rattle.rules.specs.Overlap.{spanShare, share, spanCovers, covers, shown};
-ghost use Rattle.overlap.specs.Record.{spanIn, leadsValue};
+ghost use Rattle.rules.specs.Match.{ruleAt};
+ghost use Rattle.rules.specs.Table.{recordSize, ruleCount, rulesOf, Accepted, SoundRule};
+ghost use Rattle.rules.specs.Overlap.{share, covers, shown};
+ghost use Rattle.overlap.specs.Record.{spanIn, leadsValue, spansRelate, rulesRelate};
+
+// The record at a place: sound, as every rule of an accepted table is.
+pub fn rule_at(table: &[u8], place: usize) -> &[u8]
+    requires { ⌜ Accepted (now table) × (place < ruleCount (now table)) ⌝ }
+    ensures { λ r. ⌜ SoundRule (now r) × (ruleOf (now r) ≡ ruleAt (rulesOf (now (table .entry))) place) ⌝ }
+{
+    rules::record_at(table, place)
+}
+
+// What two rules are asked in each field.
+enum Relation {
+    Share,
+    Cover,
+}
 
 // The first rule's prefix of field f is a leading part of the second's value.
 fn leads_value(a: &[u8], b: &[u8], f: usize) -> bool
@@ -28,28 +43,32 @@ fn leads_value(a: &[u8], b: &[u8], f: usize) -> bool
     )
 }
 
-// In field f one prefix is a leading part of the other: the shorter one leads the other's value.
-fn field_shares(a: &[u8], b: &[u8], f: usize) -> bool
+// The relation in field f. Where the first prefix is no longer than the second, it must lead the second's value;
+// where it is longer, it shares if the second leads its value, and never covers.
+fn field_relates(a: &[u8], b: &[u8], f: usize, relation: Relation) -> bool
     requires { ⌜ (f < 5) × SoundRule (now a) × SoundRule (now b) ⌝ }
-    ensures { λ r. ⌜ r ≡ spanShare (spanIn (now (a .entry)) (fieldAt f)) (spanIn (now (b .entry)) (fieldAt f)) ⌝ }
+    ensures { λ r. ⌜ r ≡ spansRelate relation (spanIn (now (a .entry)) (fieldAt f)) (spanIn (now (b .entry)) (fieldAt f)) ⌝ }
 {
     if rules::length_of(a, f) <= rules::length_of(b, f) {
-        leads_value(a, b, f)
-    } else {
-        leads_value(b, a, f)
+        return leads_value(a, b, f);
+    }
+    match relation {
+        Relation::Share => leads_value(b, a, f),
+        Relation::Cover => false,
     }
 }
 
-// In field f the first prefix is a leading part of the second: it is no longer, and leads its value.
-fn field_covers(a: &[u8], b: &[u8], f: usize) -> bool
-    requires { ⌜ (f < 5) × SoundRule (now a) × SoundRule (now b) ⌝ }
-    ensures { λ r. ⌜ r ≡ spanCovers (spanIn (now (a .entry)) (fieldAt f)) (spanIn (now (b .entry)) (fieldAt f)) ⌝ }
+// The relation in every field.
+fn relates(a: &[u8], b: &[u8], relation: Relation) -> bool
+    requires { ⌜ SoundRule (now a) × SoundRule (now b) ⌝ }
+    ensures { λ r. ⌜ r ≡ rulesRelate relation (ruleOf (now (a .entry))) (ruleOf (now (b .entry))) ⌝ }
 {
-    if rules::length_of(a, f) <= rules::length_of(b, f) {
-        leads_value(a, b, f)
-    } else {
-        false
+    for f in 0..FIELDS {
+        if !field_relates(a, b, f, relation) {
+            return false;
+        }
     }
+    true
 }
 
 // "Two rules share a header when, in each field, one prefix is a leading part of the other."
@@ -57,12 +76,7 @@ pub fn shares(a: &[u8], b: &[u8]) -> bool
     requires { ⌜ SoundRule (now a) × SoundRule (now b) ⌝ }
     ensures { λ r. ⌜ r ≡ share (ruleOf (now (a .entry))) (ruleOf (now (b .entry))) ⌝ }
 {
-    for f in 0..FIELDS {
-        if !field_shares(a, b, f) {
-            return false;
-        }
-    }
-    true
+    relates(a, b, Relation::Share)
 }
 
 // "One covers another when each of its prefixes is a leading part of the other's."
@@ -70,12 +84,7 @@ pub fn covers(a: &[u8], b: &[u8]) -> bool
     requires { ⌜ SoundRule (now a) × SoundRule (now b) ⌝ }
     ensures { λ r. ⌜ r ≡ covers (ruleOf (now (a .entry))) (ruleOf (now (b .entry))) ⌝ }
 {
-    for f in 0..FIELDS {
-        if !field_covers(a, b, f) {
-            return false;
-        }
-    }
-    true
+    relates(a, b, Relation::Cover)
 }
 
 // Both hold, or both deliver to one feed.

@@ -1,5 +1,6 @@
 // The judgement of a move: the first pair of rules that changes order, shares a header and differs in action.
 use crate::Inverse;
+use crate::compare::rule_at;
 use crate::same_action;
 use crate::shares;
 use crate::shown_header;
@@ -11,7 +12,6 @@ ghost use mathlib.Core.List.{List};
 ghost use Prim.Native.Nat.{ℕ, _+_, _-_, _≤_, _<_};
 ghost use lib.ListN.{length};
 ghost use Rattle.rules.specs.Rule.{ruleOf};
-ghost use Rattle.rules.specs.Match.{ruleAt};
 ghost use Rattle.rules.specs.Table.{ruleCount, rulesOf, Accepted, SoundRule};
 ghost use Rattle.overlap.specs.Pairs.{row};
 ghost use Rattle.overlap.specs.Judge.{clashes, crossing};
@@ -35,17 +35,6 @@ fn clash(a: &[u8], b: &[u8]) -> bool
     !same_action(a, b)
 }
 
-// The same of the rules at two places.
-fn clash_at(table: &[u8], lower: usize, higher: usize) -> bool
-    requires { ⌜ Accepted (now table) × (lower < ruleCount (now table)) × (higher < ruleCount (now table)) ⌝ }
-    ensures { λ r. ⌜ r ≡ clashes (ruleAt (rulesOf (now (table .entry))) lower) (ruleAt (rulesOf (now (table .entry))) higher) ⌝ }
-{
-    clash(
-        rules::record_at(table, lower),
-        rules::record_at(table, higher),
-    )
-}
-
 // Whether two rules change order and clash; those that keep their order are not compared.
 fn is_overtaken(table: &[u8], places: &[u16], lower: usize, higher: usize) -> bool
     requires { ⌜ Accepted (now table) × (ruleCount (now table) ≤ length (now places)) × (lower < ruleCount (now table)) × (higher < ruleCount (now table)) ⌝ }
@@ -54,7 +43,7 @@ fn is_overtaken(table: &[u8], places: &[u16], lower: usize, higher: usize) -> bo
     if places[lower] <= places[higher] {
         return false;
     }
-    clash_at(table, lower, higher)
+    clash(rule_at(table, lower), rule_at(table, higher))
 }
 
 // The pair of two places with its lowest shared header, as refusal 13 names it.
@@ -65,10 +54,7 @@ fn crossing_at(table: &[u8], lower: usize, higher: usize) -> Crossing
     Crossing {
         lower,
         higher,
-        header: shown_header(
-            rules::record_at(table, lower),
-            rules::record_at(table, higher),
-        ),
+        header: shown_header(rule_at(table, lower), rule_at(table, higher)),
     }
 }
 

@@ -1,4 +1,5 @@
 // The list of pairs: counted in one pass over the pairs of places, written in another.
+use crate::compare::rule_at;
 use crate::covers;
 use crate::shares;
 use rules::RECORD_BYTES;
@@ -6,17 +7,18 @@ ghost use mathlib.Core.Path.{_≡_};
 ghost use mathlib.Core.List.{_++_};
 ghost use Prim.Native.Nat.{_+_, _*_, _≤_, _<_};
 ghost use lib.ListN.{length, drop};
-ghost use Rattle.rules.specs.Rule.{ruleOf};
 ghost use Rattle.rules.specs.Match.{ruleAt};
-ghost use Rattle.rules.specs.Table.{ruleCount, rulesOf, Accepted, SoundRule};
+ghost use Rattle.rules.specs.Table.{ruleCount, rulesOf, Accepted};
 ghost use Rattle.overlap.specs.Pairs.{listed, pairsOf, flat};
 ghost use Rattle.overlap.specs.Steps.{listedRow, listedWith, Writes};
 
 // "A listed pair shares a header and neither covers the other, whatever the actions."
-fn is_listed(a: &[u8], b: &[u8]) -> bool
-    requires { ⌜ SoundRule (now a) × SoundRule (now b) ⌝ }
-    ensures { λ r. ⌜ r ≡ listed (ruleOf (now (a .entry))) (ruleOf (now (b .entry))) ⌝ }
+fn is_listed(table: &[u8], lower: usize, higher: usize) -> bool
+    requires { ⌜ Accepted (now table) × (lower < ruleCount (now table)) × (higher < ruleCount (now table)) ⌝ }
+    ensures { λ r. ⌜ r ≡ listed (ruleAt (rulesOf (now (table .entry))) lower) (ruleAt (rulesOf (now (table .entry))) higher) ⌝ }
 {
+    let a = rule_at(table, lower);
+    let b = rule_at(table, higher);
     if !shares(a, b) {
         return false;
     }
@@ -26,17 +28,6 @@ fn is_listed(a: &[u8], b: &[u8]) -> bool
     !covers(b, a)
 }
 
-// The same of the rules at two places.
-fn listed_at(table: &[u8], lower: usize, higher: usize) -> bool
-    requires { ⌜ Accepted (now table) × (lower < ruleCount (now table)) × (higher < ruleCount (now table)) ⌝ }
-    ensures { λ r. ⌜ r ≡ listed (ruleAt (rulesOf (now (table .entry))) lower) (ruleAt (rulesOf (now (table .entry))) higher) ⌝ }
-{
-    is_listed(
-        rules::record_at(table, lower),
-        rules::record_at(table, higher),
-    )
-}
-
 // How many pairs of a place with a higher one are listed.
 fn count_row(table: &[u8], lower: usize) -> usize
     requires { ⌜ Accepted (now table) × (lower < ruleCount (now table)) ⌝ }
@@ -44,7 +35,7 @@ fn count_row(table: &[u8], lower: usize) -> usize
 {
     let mut found = 0;
     for higher in lower + 1..table.len() / RECORD_BYTES {
-        if listed_at(table, lower, higher) {
+        if is_listed(table, lower, higher) {
             found += 1;
         }
     }
@@ -69,7 +60,7 @@ fn put_pair(table: &[u8], lower: usize, higher: usize, list: &mut [u16], at: usi
     requires { ⌜ at + length (flat (listedRow (now table) lower higher 1)) ≤ length (now list) ⌝ }
     ensures { λ r. ⌜ Writes (now (list .entry)) at (flat (listedRow (now (table .entry)) lower higher 1)) (now (list .exit)) r ⌝ }
 {
-    if !listed_at(table, lower, higher) {
+    if !is_listed(table, lower, higher) {
         return at;
     }
     list[at] = lower as u16;

@@ -4,13 +4,14 @@
 use mathlib.Core.Path.{_≡_, ap}
 use Prim.Native.Nat.{_+_, _-_, _*_, _≤_, _<_}
 use native.Mathlib.Omega.{arith}
-use lib.ListN.{length}
+use lib.ListN.{length, length-append}
 use borrow.Author.Needs.{needs}
 use denote.Ref.{now}
 use Rattle.rules.specs.Table.{ruleCount, rulesOf}
 use Rattle.rules.proofs.TableLaws.{accepted-sound}
-use Rattle.overlap.specs.Pairs.{triangle, keep, listed, onPair, pairsOf}
-use Rattle.overlap.proofs.LoopLaws.{count-rows, count-rows-over, row-few, pairs-all}
+use Rattle.overlap.specs.Pairs.{pairsOf}
+use Rattle.overlap.specs.Steps.{listedFrom}
+use Rattle.overlap.proofs.LoopLaws.{rows-parts, rows-done, rows-all, row-few}
 use Rattle.overlap.proofs.pairs.count_pairs.Statement.{statement}
 use Rattle.overlap.proofs.pairs.count_pairs.Tie as tie
 
@@ -19,13 +20,13 @@ Inv-loop table found₀ lower₀ lower-end found lower =
     (lower-end ≡ ruleCount table)
     × (lower ≤ lower-end)
     × (found ≤ 256 * lower)
-    × (found + length (keep (onPair listed (rulesOf table)) (triangle lower (ruleCount table - lower))) ≡ length (pairsOf (rulesOf table)))
+    × (found + length (listedFrom table lower) ≡ length (pairsOf (rulesOf table)))
 
 abbrev μ-loop : tie.MeasureT-loop
 μ-loop table found₀ lower₀ lower-end found lower = lower-end - lower
 
 loop-holds : tie.Need-loop-holds Inv-loop μ-loop
-loop-holds c = omega (arith, ap length (pairs-all (now (c .before .args .table))))
+loop-holds c = omega (arith, ap length (rows-all (now (c .before .args .table))))
 
 -- a row has no more pairs than the table has rules
 few : (c : tie.After-count-row Inv-loop μ-loop) → (c .count-row .result ≤ 256) × (c .before .before .loop .lower < 256)
@@ -34,7 +35,7 @@ few c =
     let s = k .before .before in
     let table = now (s .args .table) in
     let n = ruleCount table - (k .loop .lower + 1) in
-    omega (arith, c .count-row .ensures, row-few (onPair listed (rulesOf table)) (k .loop .lower) (k .loop .lower + 1) n, accepted-sound table (s .pre) .few)
+    omega (arith, c .count-row .ensures, row-few table (k .loop .lower) (k .loop .lower + 1) n, accepted-sound table (s .pre) .few)
 
 add-found : tie.Need-add-found Inv-loop μ-loop
 add-found c = omega (arith, few c)
@@ -43,13 +44,12 @@ loop-again : tie.Need-loop-again Inv-loop μ-loop
 loop-again c =
     let k = c .before .before in
     let table = now (k .before .before .args .table) in
-    omega (arith, few c, c .count-row .ensures, count-rows (onPair listed (rulesOf table)) (ruleCount table) (k .loop .lower) (omega arith))
+    omega (arith, few c, c .count-row .ensures, simp length-append at (ap length (rows-parts table (k .loop .lower) (omega arith))))
 
 returns : tie.Need-returns Inv-loop μ-loop
 returns c =
     let k = c .before in
-    let table = now (k .before .before .args .table) in
-    omega (arith, count-rows-over (onPair listed (rulesOf table)) (ruleCount table) (k .loop .lower) (omega arith))
+    omega (arith, ap length (rows-done (now (k .before .before .args .table)) (k .loop .lower) (omega arith)))
 
 pub count-pairs-spec : {M : Type 1} → statement M
 count-pairs-spec =

@@ -1,18 +1,15 @@
 -- `count_row` meets its contract. The loop's invariant: what was found and what is left to find are the row's listed pairs.
 -- Assumes nothing.
-use mathlib.Core.Path.{_≡_, sym, _∙_}
+use mathlib.Core.Path.{_≡_, sym, ap, _∙_}
 use mathlib.Core.Logic.{⊎-elim}
-use mathlib.Core.Bool.{Bool}
-use mathlib.Core.List.{List}
-use Prim.Native.Nat.{ℕ, _+_, _-_, _≤_}
+use Prim.Native.Nat.{_+_, _-_, _≤_}
 use native.Mathlib.Omega.{arith}
-use lib.ListN.{length}
+use lib.ListN.{length, length-append}
 use borrow.Author.Needs.{needs}
 use denote.Ref.{now}
-use Rattle.rules.specs.Table.{ruleCount, rulesOf}
-use Rattle.overlap.specs.Pairs.{Pair, listed, onPair}
+use Rattle.rules.specs.Table.{ruleCount}
 use Rattle.overlap.specs.Steps.{listedRow, listedWith}
-use Rattle.overlap.proofs.LoopLaws.{count-row, count-one, count-none, count-over}
+use Rattle.overlap.proofs.LoopLaws.{row-parts, row-done, one-listed, none-listed}
 use Rattle.overlap.proofs.pairs.count_row.Statement.{statement}
 use Rattle.overlap.proofs.pairs.count_row.Tie as tie
 
@@ -26,29 +23,23 @@ Inv-loop table lower found₀ higher₀ higher-end found higher =
 abbrev μ-loop : tie.MeasureT-loop
 μ-loop table lower found₀ higher₀ higher-end found higher = higher-end - higher
 
--- the test of a pair of the row
-abbrev test : List ℕ → Pair → Bool
-test table = onPair listed (rulesOf table)
-
 loop-again : tie.Need-loop-again Inv-loop μ-loop
-unfolding onPair
 loop-again c =
     let k = c .before .before .before in
     let a = k .before .before .args in
     let table = now (a .table) in
-    let turn = count-row (test table) (ruleCount table) (a .lower) (k .loop .higher) (omega arith) in
-    let is = sym (c .before .listed-at .ensures) in
+    let turn = simp length-append at (ap length (row-parts table (a .lower) (k .loop .higher) (omega arith))) in
+    let is = sym (c .before .is-listed .ensures) in
     ⊎-elim
-    (λ w. omega (arith, turn, k .loop .inv .3, count-one (test table) (a .lower) (k .loop .higher) (is ∙ w .0 .taken)))
-    (λ w. omega (arith, turn, k .loop .inv .3, count-none (test table) (a .lower) (k .loop .higher) (is ∙ w .0 .left)))
+    (λ w. omega (arith, turn, k .loop .inv .3, ap length (one-listed table (a .lower) (k .loop .higher) (is ∙ w .0 .taken))))
+    (λ w. omega (arith, turn, k .loop .inv .3, ap length (none-listed table (a .lower) (k .loop .higher) (is ∙ w .0 .left))))
     (c .if1 .came)
 
 returns : tie.Need-returns Inv-loop μ-loop
 returns c =
     let k = c .before in
     let a = k .before .before .args in
-    let table = now (a .table) in
-    omega (arith, k .loop .inv .3, count-over (test table) (ruleCount table) (a .lower) (k .loop .higher) (omega arith))
+    omega (arith, k .loop .inv .3, ap length (row-done (now (a .table)) (a .lower) (k .loop .higher) (omega arith)))
 
 pub count-row-spec : {M : Type 1} → statement M
 count-row-spec =

@@ -8,15 +8,15 @@ use lib.ListN.{length, drop}
 use borrow.Author.Needs.{needs}
 use denote.Ref.{now}
 use Rattle.rules.specs.Table.{ruleCount, rulesOf}
-use Rattle.overlap.specs.Pairs.{triangle, keep, listed, onPair, pairsOf, flat}
-use Rattle.overlap.specs.Steps.{listedWith}
-use Rattle.overlap.proofs.LoopLaws.{flat-size, flat-rows, flat-rows-over, pairs-all, Leaves, leaves-all, leaves-room, leaves-rest, leaves-none, writes-front}
+use Rattle.overlap.specs.Pairs.{pairsOf, flat}
+use Rattle.overlap.specs.Steps.{listedWith, listedFrom}
+use Rattle.overlap.proofs.LoopLaws.{rows-parts, rows-done, rows-all, flat-size, flat-append, Leaves, leaves-all, leaves-room, leaves-rest, leaves-none, writes-front}
 use Rattle.overlap.proofs.pairs.write_pairs.Statement.{statement}
 use Rattle.overlap.proofs.pairs.write_pairs.Tie as tie
 
 -- the words of the pairs from place i on
 abbrev words : List ℕ → ℕ → List ℕ
-words table i = flat (keep (onPair listed (rulesOf table)) (triangle i (ruleCount table - i)))
+words table i = flat (listedFrom table i)
 
 abbrev all : List ℕ → List ℕ
 all table = flat (pairsOf (rulesOf table))
@@ -33,11 +33,11 @@ abbrev μ-loop : tie.MeasureT-loop
 loop-holds : tie.Need-loop-holds Inv-loop μ-loop
 loop-holds c =
     let a = c .before .before .args in
-    (omega arith, omega arith, rw (ap flat (pairs-all (now (a .table)))) (leaves-all (now (a .list)) 0 (all (now (a .table)))))
+    (omega arith, omega arith, rw (ap flat (rows-all (now (a .table)))) (leaves-all (now (a .list)) 0 (all (now (a .table)))))
 
 -- the words that are left are one row's and the rest
 parts : (table : List ℕ) (i : ℕ) → i < ruleCount table → words table i ≡ flat (listedWith table i) ++ words table (i + 1)
-parts table i h = flat-rows (onPair listed (rulesOf table)) (ruleCount table) i h
+parts table i h = ap flat (rows-parts table i h) ∙ simp flat-append
 
 room : (table list : List ℕ) → 2 * length (pairsOf (rulesOf table)) ≤ length list → 0 + length (all table) ≤ length list
 room table list h = omega (arith, flat-size (pairsOf (rulesOf table)))
@@ -61,12 +61,13 @@ loop-again c =
     )
 
 returns : tie.Need-returns Inv-loop μ-loop
+unfolding flat
 returns c =
     let k = c .before in
     let s = k .before .before .before in
     let table = now (s .args .table) in
     let list = now (s .args .list) in
-    let w = leaves-none (k .loop .inv .2) (flat-rows-over (onPair listed (rulesOf table)) (ruleCount table) (k .loop .lower) (omega arith)) in
+    let w = leaves-none (k .loop .inv .2) (ap flat (rows-done table (k .loop .lower) (omega arith))) in
     writes-front (omega (arith, room table list (s .pre .1))) w ∙ ap (λ (n : ℕ). all table ++ drop n list) (flat-size (pairsOf (rulesOf table)))
 
 pub write-pairs-spec : {M : Type 1} → statement M

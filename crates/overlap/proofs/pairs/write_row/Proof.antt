@@ -1,15 +1,15 @@
 -- `write_row` meets its contract. The loop's invariant: the words of the pairs that are left, written here, are the row's at the start.
 -- Assumes nothing.
-use mathlib.Core.Path.{_≡_}
+use mathlib.Core.Path.{_≡_, ap, _∙_}
 use mathlib.Core.List.{List, _++_}
 use Prim.Native.Nat.{ℕ, _+_, _-_, _≤_, _<_}
 use native.Mathlib.Omega.{arith}
 use borrow.Author.Needs.{needs}
 use denote.Ref.{now}
-use Rattle.rules.specs.Table.{ruleCount, rulesOf}
-use Rattle.overlap.specs.Pairs.{listed, onPair, flat}
+use Rattle.rules.specs.Table.{ruleCount}
+use Rattle.overlap.specs.Pairs.{flat}
 use Rattle.overlap.specs.Steps.{listedRow}
-use Rattle.overlap.proofs.LoopLaws.{flat-row, flat-row-over, Leaves, leaves-all, leaves-room, leaves-rest, leaves-none}
+use Rattle.overlap.proofs.LoopLaws.{row-parts, row-done, flat-append, Leaves, leaves-all, leaves-room, leaves-rest, leaves-none}
 use Rattle.overlap.proofs.pairs.write_row.Statement.{statement}
 use Rattle.overlap.proofs.pairs.write_row.Tie as tie
 
@@ -33,7 +33,7 @@ loop-holds c =
 
 -- the words that are left are one pair's and the rest
 parts : (table : List ℕ) (i j : ℕ) → j < ruleCount table → words table i j ≡ flat (listedRow table i j 1) ++ words table i (j + 1)
-parts table i j h = flat-row (onPair listed (rulesOf table)) (ruleCount table) i j h
+parts table i j h = ap flat (row-parts table i j h) ∙ simp flat-append
 
 put-pair-requires : tie.Need-put-pair-requires Inv-loop μ-loop
 put-pair-requires c κs =
@@ -54,11 +54,11 @@ loop-again c =
     )
 
 returns : tie.Need-returns Inv-loop μ-loop
+unfolding flat
 returns c =
     let k = c .before in
     let s = k .before .before .before in
-    let table = now (s .args .table) in
-    leaves-none (k .loop .inv .2) (flat-row-over (onPair listed (rulesOf table)) (ruleCount table) (s .args .lower) (k .loop .higher) (omega arith))
+    leaves-none (k .loop .inv .2) (ap flat (row-done (now (s .args .table)) (s .args .lower) (k .loop .higher) (omega arith)))
 
 pub write-row-spec : {M : Type 1} → statement M
 write-row-spec =
