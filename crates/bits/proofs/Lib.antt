@@ -7,3 +7,4 @@ pub mod PathLaws
 pub mod SamePathLaws
 pub mod MaskLaws
 pub mod WordLaws
+pub mod WritingLaws

@@ -3,7 +3,7 @@
 use mathlib.Core.Path.{_≡_, refl, sym, ap, ap₂, _∙_, fun-ext}
 use mathlib.Core.Logic.{_⊎_, inl, inr, ⊎-elim}
 use mathlib.Core.Bool.{Bool, true, false, _&&_, _||_, or-true, or-assoc}
-use mathlib.Core.List.{List, [], _∷_, _++_, map, head-eq-of-cons-eq, tail-eq-of-cons-eq, concat-ne-nil}
+use mathlib.Core.List.{List, [], _∷_, _++_, map, flatten, append-assoc, head-eq-of-cons-eq, tail-eq-of-cons-eq, concat-ne-nil}
 use Prim.Native.Nat.{ℕ, zero, suc}
 use lib.Dec.{eqb}
 use lib.ListN.{take, drop}
@@ -102,6 +102,11 @@ module _ {A B : Type 0} where
   drop-map g zero l = refl
   drop-map g (suc n) [] = refl
   drop-map g (suc n) (x ∷ l) = drop-map g n l
+
+pub flatten-append : {A : Type 0} (ls ms : List (List A)) → flatten (ls ++ ms) ≡ flatten ls ++ flatten ms
+unfolding flatten
+flatten-append [] ms = refl
+flatten-append {A} (l ∷ ls) ms = ap (λ (r : List A). l ++ r) (flatten-append ls ms) ∙ sym (append-assoc l (flatten ls) (flatten ms))
 
 pub map-map : {A B C : Type 0} (g : A → B) (h : B → C) (l : List A) → map h (map g l) ≡ map (λ x. h (g x)) l
 map-map g h [] = refl

@@ -1,6 +1,7 @@
 -- Laws of numbers as bytes: one byte more, how large a number of few bytes can be, and that bytes fix their number.
 -- Assumes nothing.
 use mathlib.Core.Path.{_≡_, refl, sym, ap, _∙_}
+use mathlib.Core.Logic.{⊎-elim}
 use mathlib.Core.Bool.{not, _||_, or-false, or-assoc}
 use mathlib.Core.List.{List, [], _∷_, _++_}
 use Prim.Native.Nat.{ℕ, zero, suc, _+_, _*_, _/_, _%_, _^_, _≤_, _<_}
@@ -8,13 +9,24 @@ use native.Mathlib.Nat.{lt-of-lt-of-le, div-add-mod', mod-lt, pow-suc, one-le-po
 use native.Mathlib.Numerals.{add-one}
 use native.Mathlib.Omega.{arith}
 use lib.Dec.{eqb, eqb·suc-zero}
-use lib.ListN.{length, getD, take, drop, length-drop}
-use lib.Seq.{take-suc, getD-drop}
+use lib.ListN.{length, getD, take, drop, length-take, length-drop, List·getD-eq-default}
+use lib.Seq.{take-suc, getD-take, getD-drop}
 use lib.Pow.{pow-add, pow-mono}
 use borrow.Author.Tests.{ne-eqb}
 use Rattle.bits.specs.Tests.{any}
 use Rattle.bits.specs.Number.{Bytes, numberFrom, number, numberAt, bytesOf}
-use Rattle.bits.proofs.TestLaws.{same-eqb}
+use Rattle.bits.proofs.TestLaws.{same-eqb, less}
+
+-- ---- bytes
+
+-- a part of a list of bytes is one
+pub part-bytes : (l : List ℕ) → Bytes l → (n from : ℕ) → Bytes (take n (drop from l))
+part-bytes l each n from k =
+    let rest = drop from l in
+    ⊎-elim
+    (λ (h : k < n). rw (getD-take n rest k 0 h, getD-drop from l k 0) (each (from + k)))
+    (λ (h : n ≤ k). rw (List·getD-eq-default (take n rest) 0 {n = k} (omega (arith, length-take n rest))) (omega arith))
+    (less k n)
 
 -- ---- one byte more
 

@@ -4,3 +4,4 @@ pub mod Path
 pub mod Mask
 pub mod Word
 pub mod Tests
+pub mod Writing

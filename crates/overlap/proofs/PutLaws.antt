@@ -1,7 +1,7 @@
 -- Records written one after another through parts of a lent output, each from its new place on.
 -- Assumes nothing.
 use mathlib.Core.Path.{_≡_, refl, sym, ap, _∙_}
-use mathlib.Core.List.{List, [], _∷_, _++_, flatten, append-assoc, append-nil}
+use mathlib.Core.List.{List, [], _∷_, _++_, map, map-append, flatten, append-assoc, append-nil}
 use Prim.Native.Nat.{ℕ, zero, suc, _+_, _-_, _*_, _≤_, _<_}
 use native.Mathlib.Nat.{le-of-lt}
 use native.Mathlib.Numerals.{add-one}
@@ -9,6 +9,7 @@ use native.Mathlib.Omega.{arith}
 use lib.ListN.{length, take, drop, getD, set, length-append, length-drop, drop-of-length-le}
 use lib.Seq.{drop-cons, set-at, append-snoc, take-suc, length-take-le, take-at, drop-at, drop-drop, take-all}
 use borrow.Rule.Slice.PartMut.{putMid}
+use Rattle.bits.proofs.ListLaws.{flatten-append}
 use Rattle.rules.specs.Table.{recordSize, ruleCount, recordAt}
 use Rattle.rules.proofs.TableLaws.{length-record}
 use Rattle.overlap.specs.Order.{oldPlace, movedTable}
@@ -28,10 +29,8 @@ copy-more s d j hs hd =
 -- ---- the records of the first places of an order
 
 moved-append : (table xs ys : List ℕ) → movedTable table (xs ++ ys) ≡ movedTable table xs ++ movedTable table ys
-unfolding movedTable flatten
-moved-append table [] ys = refl
-moved-append table (x ∷ xs) ys =
-    ap (λ (r : List ℕ). recordAt table x ++ r) (moved-append table xs ys) ∙ sym (append-assoc (recordAt table x) (movedTable table xs) (movedTable table ys))
+unfolding movedTable
+moved-append table xs ys = ap flatten (map-append (recordAt table) xs ys) ∙ flatten-append (map (recordAt table) xs) (map (recordAt table) ys)
 
 moved-single : (table : List ℕ) (x : ℕ) → movedTable table (x ∷ []) ≡ recordAt table x
 unfolding movedTable flatten

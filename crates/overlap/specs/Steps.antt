@@ -1,11 +1,10 @@
--- The steps of the code: one row of pairs, what it writes, and what a checked order leaves.
+-- The steps of the code: one row of pairs, and what a checked order leaves.
 -- Assumes nothing.
 use mathlib.Core.Path.{_≡_}
 use mathlib.Core.Bool.{Bool, true}
 use mathlib.Core.List.{List}
 use Prim.Native.Nat.{ℕ, _+_, _-_, _<_}
-use lib.ListN.{length, getD}
-use lib.Seq.{sets}
+use lib.ListN.{getD}
 use Rattle.rules.specs.Table.{ruleCount, rulesOf}
 use Rattle.overlap.specs.Pairs.{Pair, row, triangle, keep, listed, onPair}
 use Rattle.overlap.specs.Order.{isOrder, newPlace}
@@ -21,11 +20,6 @@ listedWith table i = listedRow table i (i + 1) (ruleCount table - (i + 1))
 -- the listed pairs from place i on
 abbrev pub listedFrom : List ℕ → ℕ → List Pair
 listedFrom table i = keep (onPair listed (rulesOf table)) (triangle i (ruleCount table - i))
-
--- words written one after another from an entry on: the list afterwards, where every other entry keeps its value, and the next entry
-pub record Writes (list : List ℕ) (at : ℕ) (words : List ℕ) (after : List ℕ) (next : ℕ) : Type 0 where
-  pub written : after ≡ sets list at words
-  pub ends : next ≡ at + length words
 
 -- what checking an order leaves: whether it is one, and if it is, the new place of each old one
 pub record Inverts (rules : ℕ) (order : List ℕ) (valid : Bool) (places : List ℕ) : Type 0 where

@@ -7,10 +7,11 @@ ghost use mathlib.Core.Path.{_≡_};
 ghost use mathlib.Core.List.{_++_};
 ghost use Prim.Native.Nat.{_+_, _*_, _≤_, _<_};
 ghost use lib.ListN.{length, drop};
+ghost use Rattle.bits.specs.Writing.{Writes};
 ghost use Rattle.rules.specs.Match.{ruleAt};
 ghost use Rattle.rules.specs.Table.{ruleCount, rulesOf, Accepted};
 ghost use Rattle.overlap.specs.Pairs.{listed, pairsOf, flat};
-ghost use Rattle.overlap.specs.Steps.{listedRow, listedWith, Writes};
+ghost use Rattle.overlap.specs.Steps.{listedRow, listedWith};
 
 // "A listed pair shares a header and neither covers the other, whatever the actions."
 fn is_listed(table: &[u8], lower: usize, higher: usize) -> bool

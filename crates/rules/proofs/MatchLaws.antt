@@ -1,17 +1,16 @@
 -- The rules of a table by place, and the first that matches a header.
 -- Assumes nothing.
 use mathlib.Core.Path.{_≡_, ap, _∙_}
-use mathlib.Core.Logic.{⊎-elim}
 use mathlib.Core.Bool.{Bool}
 use mathlib.Core.List.{List}
 use mathlib.Core.Option.{some}
 use Prim.Native.Nat.{ℕ, _+_, _*_, _≤_, _<_}
 use native.Mathlib.Omega.{arith}
-use lib.ListN.{length, take, drop, length-map, length-take, List·getD-eq-default}
-use lib.Seq.{getD-take, getD-drop}
+use lib.ListN.{length, length-map}
 use Rattle.bits.specs.Number.{Bytes}
 use Rattle.bits.specs.Tests.{all, upFrom}
-use Rattle.bits.proofs.TestLaws.{Lowest, Told, lowest-told, lowest-some, less}
+use Rattle.bits.proofs.TestLaws.{Lowest, Told, lowest-told, lowest-some}
+use Rattle.bits.proofs.NumberLaws.{part-bytes}
 use Rattle.bits.proofs.EachLaws.{getD-map, up-size, up-at, each-places}
 use Rattle.rules.specs.Rule.{has, Rule, ruleOf}
 use Rattle.rules.specs.Match.{matches, nowhere, ruleAt, noRule, firstMatch, matchesIn}
@@ -32,12 +31,7 @@ rules-at table place h =
 
 pub record-bytes : (table : List ℕ) → Bytes table → (place : ℕ) → Bytes (recordAt table place)
 unfolding recordAt
-record-bytes table b place k =
-    let rest = drop (place * recordSize) table in
-    ⊎-elim
-    (λ (h : k < recordSize). rw (getD-take recordSize rest k 0 h, getD-drop (place * recordSize) table k 0) (b (place * recordSize + k)))
-    (λ (h : recordSize ≤ k). rw (List·getD-eq-default (take recordSize rest) 0 {n = k} (omega (arith, length-take recordSize rest))) (omega arith))
-    (less k recordSize)
+record-bytes table b place = part-bytes table b recordSize (place * recordSize)
 
 -- a rule with a span for each value matches when it has the value in each field
 pub matches-in : (values : List ℕ) (r : Rule) → length (r .spans) ≡ length values → matches values r ≡ all (λ f. matchesIn values f r) (upFrom 0 (length values))

@@ -7,10 +7,11 @@ use lib.ListN.{length, length-set}
 use borrow.Author.Needs.{needs}
 use borrow.Author.Tests.{not-true, not-false}
 use denote.Ref.{now}
+use Rattle.bits.proofs.WritingLaws.{writes-two, writes-nothing}
 use Rattle.rules.proofs.TableLaws.{accepted-sound}
 use Rattle.overlap.specs.Pairs.{flat}
 use Rattle.overlap.specs.Steps.{listedRow}
-use Rattle.overlap.proofs.LoopLaws.{one-listed, none-listed, writes-two, writes-nothing}
+use Rattle.overlap.proofs.LoopLaws.{one-listed, none-listed}
 use Rattle.overlap.proofs.pairs.put_pair.Statement.{statement}
 use Rattle.overlap.proofs.pairs.put_pair.Tie as tie
 

@@ -7,10 +7,11 @@ use native.Mathlib.Omega.{arith}
 use lib.ListN.{length, drop}
 use borrow.Author.Needs.{needs}
 use denote.Ref.{now}
+use Rattle.bits.proofs.WritingLaws.{Leaves, leaves-all, leaves-room, leaves-rest, leaves-none, writes-front}
 use Rattle.rules.specs.Table.{ruleCount, rulesOf}
 use Rattle.overlap.specs.Pairs.{pairsOf, flat}
 use Rattle.overlap.specs.Steps.{listedWith, listedFrom}
-use Rattle.overlap.proofs.LoopLaws.{rows-parts, rows-done, rows-all, flat-size, flat-append, Leaves, leaves-all, leaves-room, leaves-rest, leaves-none, writes-front}
+use Rattle.overlap.proofs.LoopLaws.{rows-parts, rows-done, rows-all, flat-size, flat-append}
 use Rattle.overlap.proofs.pairs.write_pairs.Statement.{statement}
 use Rattle.overlap.proofs.pairs.write_pairs.Tie as tie
 

@@ -6,10 +6,11 @@ use Prim.Native.Nat.{ℕ, _+_, _-_, _≤_, _<_}
 use native.Mathlib.Omega.{arith}
 use borrow.Author.Needs.{needs}
 use denote.Ref.{now}
+use Rattle.bits.proofs.WritingLaws.{Leaves, leaves-all, leaves-room, leaves-rest, leaves-none}
 use Rattle.rules.specs.Table.{ruleCount}
 use Rattle.overlap.specs.Pairs.{flat}
 use Rattle.overlap.specs.Steps.{listedRow}
-use Rattle.overlap.proofs.LoopLaws.{row-parts, row-done, flat-append, Leaves, leaves-all, leaves-room, leaves-rest, leaves-none}
+use Rattle.overlap.proofs.LoopLaws.{row-parts, row-done, flat-append}
 use Rattle.overlap.proofs.pairs.write_row.Statement.{statement}
 use Rattle.overlap.proofs.pairs.write_row.Tie as tie
 
