@@ -1,0 +1,5 @@
+-- The laws of the program's text.
+pub mod TextLaws
+pub mod DecimalLaws
+pub mod LineLaws
+pub mod ProgramLaws

@@ -1,0 +1,5 @@
+-- The desk program: what its text is, whatever stands in `rules.bin` and whatever comes in.
+pub mod Text
+pub mod Lines
+pub mod Program
+pub mod InCode
