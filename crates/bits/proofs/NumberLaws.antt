@@ -19,6 +19,11 @@ use Rattle.bits.proofs.TestLaws.{same-eqb, less}
 
 -- ---- bytes
 
+pub bytes-append : (l m : List ℕ) → Bytes l → Bytes m → Bytes (l ++ m)
+bytes-append [] m b c k = c k
+bytes-append (x ∷ l) m b c zero = b 0
+bytes-append (x ∷ l) m b c (suc k) = bytes-append l m (λ j. b (suc j)) c k
+
 -- a part of a list of bytes is one
 pub part-bytes : (l : List ℕ) → Bytes l → (n from : ℕ) → Bytes (take n (drop from l))
 part-bytes l each n from k =

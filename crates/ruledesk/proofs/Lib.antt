@@ -3,3 +3,4 @@ pub mod TextLaws
 pub mod DecimalLaws
 pub mod LineLaws
 pub mod ProgramLaws
+pub mod Determined

@@ -8,7 +8,8 @@ use Prim.Native.Nat.{ℕ, zero, suc, _+_, _-_, _*_, _/_, _%_, _≤_, _<_}
 use native.Mathlib.Nat.{zero-add}
 use native.Mathlib.Numerals.{add-one}
 use native.Mathlib.Omega.{arith}
-use lib.ListN.{length, take, drop, length-drop}
+use lib.Dec.{ltb}
+use lib.ListN.{length, take, drop, replicate, length-drop, length-replicate}
 use lib.Seq.{take-all, length-take-le}
 use borrow.Author.Tests.{lt-ltb, le-ltb, eq-eqb, ne-eqb}
 use Rattle.io.specs.Counts.{Counts}
@@ -28,12 +29,13 @@ use Rattle.lookup.specs.Look.{lookSaid}
 use Rattle.lookup.proofs.Demand2.{demand-2}
 use Rattle.desk.specs.declared.Built.{Built}
 use Rattle.desk.specs.declared.Built.the-variants.{Done, Refused}
-use Rattle.desk.specs.BuildCall.{builtSaid, buildSaid, areaLeft, Builds}
+use Rattle.desk.specs.Lent.{roomSaid}
+use Rattle.desk.specs.BuildCall.{builtSaid, wordsNeeded, buildSaid, areaLeft, Builds}
 use Rattle.desk.proofs.LentLaws.{lent-refused}
 use Rattle.desk.proofs.BuildLaws.{built-image}
 use Rattle.ruledesk.specs.InCode.{Puts, longSaid}
 use Rattle.ruledesk.specs.Lines.{refusedText, answerText, line}
-use Rattle.ruledesk.specs.Program.{mostInput, headerIn, firstLines, badLength, inputText, textAfter, programText, Holds, Reports}
+use Rattle.ruledesk.specs.Program.{areaWords, freshArea, mostInput, headerIn, firstLines, badLength, inputText, textAfter, programText, Holds, Reports}
 use Rattle.ruledesk.proofs.TextLaws.{text-same, puts-both}
 
 -- as the kit's library says that a number counts bytes at the front
@@ -133,26 +135,38 @@ input-agree says other input each same =
 
 -- ---- the ends
 
-module _ (table input area : List ℕ) where
+-- of an area its length alone counts
+fresh : (table area : List ℕ) → length area ≡ areaWords → buildSaid table area ≡ buildSaid table freshArea
+unfolding buildSaid roomSaid freshArea
+fresh table area size =
+    let same : length area ≡ length {A = ℕ} (replicate areaWords 0) = size ∙ sym (length-replicate {A = ℕ} areaWords 0) in
+    ap (λ (n : ℕ). firstRefusal (verdict table) (cond (ltb n (wordsNeeded table)) (7 ∷ []) (0 ∷ wordsNeeded table ∷ []))) same
+
+module _ (table input area : List ℕ) (size : length area ≡ areaWords) where
+  text-from : (says : List ℕ) → says ≡ buildSaid table area → textAfter says table input ≡ programText table input
+  unfolding programText
+  text-from says e = ap (λ (l : List ℕ). textAfter l table input) (e ∙ fresh table area size)
+
   -- a table or a build that is refused
-  pub text-said : (r : Refusal) → said r ≡ buildSaid table area → line (refusedText (said r)) ≡ programText table input area
-  unfolding programText textAfter
+  pub text-said : (r : Refusal) → said r ≡ buildSaid table area → line (refusedText (said r)) ≡ programText table input
+  unfolding textAfter
   text-said r e =
-      ap (λ (l : List ℕ). line (refusedText l)) (numbered r .2) ∙ ap (λ (l : List ℕ). textAfter l table input) (sym (numbered r .2) ∙ e)
+      ap (λ (l : List ℕ). line (refusedText l)) (numbered r .2)
+      ∙ text-from (suc (numbered r .0) ∷ numbered r .1) (sym (numbered r .2) ∙ e)
 
   module _ {o : Built} {after : List ℕ} (built : Builds table area o after) where
-    pub text-refused : {r : Refusal} → o ≡ Refused r → line (refusedText (said r)) ≡ programText table input area
+    pub text-refused : {r : Refusal} → o ≡ Refused r → line (refusedText (said r)) ≡ programText table input
     unfolding builtSaid
     text-refused {r} e = text-said r (ap builtSaid (sym e) ∙ built .answer)
 
     -- a build that is done: what the steps over its area say is what the rules say
-    pub text-done : {words : ℕ} → o ≡ Done words → Bytes table → Bytes input → inputText (lookSaid table after) input ≡ programText table input area
-    unfolding programText textAfter builtSaid
-    text-done e bytes each =
+    pub text-done : {words : ℕ} → o ≡ Done words → Bytes table → Bytes input → inputText (lookSaid table after) input ≡ programText table input
+    unfolding textAfter builtSaid
+    text-done {words} e bytes each =
         let held = built-image (subst (λ (r : Built). Builds table area r after) e built) in
         input-agree (lookSaid table after) (answerSaid table) input each
         (λ header b right. demand-2 table bytes (held .0) header b right after (held .1))
-        ∙ ap (λ (l : List ℕ). textAfter l table input) (ap builtSaid (sym e) ∙ built .answer)
+        ∙ text-from (0 ∷ words ∷ []) (ap builtSaid (sym e) ∙ built .answer)
 
 pub left-refused : (table area : List ℕ) (r : Refusal) → said r ≡ buildSaid table area → area ≡ areaLeft table area
 unfolding areaLeft

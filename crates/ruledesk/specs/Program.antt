@@ -5,7 +5,7 @@ use mathlib.Core.Bool.{Bool, not, _||_, cond}
 use mathlib.Core.List.{List, [], _∷_, _++_, map, flatten}
 use Prim.Native.Nat.{ℕ, zero, suc, _*_, _/_, _%_}
 use lib.Dec.{eqb, ltb}
-use lib.ListN.{length, take, drop}
+use lib.ListN.{length, take, drop, replicate}
 use Rattle.bits.specs.Number.{Bytes}
 use Rattle.bits.specs.Tests.{upFrom}
 use Rattle.bits.specs.Writing.{Writes}
@@ -13,6 +13,13 @@ use Rattle.rules.specs.Header.{headerSize}
 use Rattle.lookup.specs.Answer.{answerSaid}
 use Rattle.desk.specs.BuildCall.{buildSaid, areaLeft}
 use Rattle.ruledesk.specs.Lines.{refusedText, answerText, line}
+
+-- "with an area of 16,384 words": whatever stands in them
+abbrev pub areaWords : ℕ
+areaWords = 16384
+
+unfoldable pub freshArea : List ℕ
+freshArea = replicate areaWords 0
 
 -- "headers from standard input, at most 13,000 bytes"
 abbrev pub mostInput : ℕ
@@ -41,8 +48,8 @@ textAfter (zero ∷ values) table input = inputText (answerSaid table) input
 textAfter (suc n ∷ values) table input = line (refusedText (suc n ∷ values))
 
 -- the answers are those of the rule that wins, by the rules alone (`answerSaid`)
-unfoldable pub programText : List ℕ → List ℕ → List ℕ → List ℕ
-programText file input area = textAfter (buildSaid file area) file input
+unfoldable pub programText : List ℕ → List ℕ → List ℕ
+programText file input = textAfter (buildSaid file freshArea) file input
 
 -- ---- what was read
 
@@ -54,5 +61,5 @@ pub record Holds (bytes room : List ℕ) (whole : ℕ) : Type 0 where
 
 -- what the program writes from the front of `out`, and what it leaves in its area
 pub record Reports (file input area out : List ℕ) (next : ℕ) (after left : List ℕ) : Type 0 where
-  pub text : Writes out 0 (programText file input area) after next
+  pub text : Writes out 0 (programText file input) after next
   pub lent : left ≡ areaLeft file area

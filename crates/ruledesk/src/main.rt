@@ -10,12 +10,10 @@ ghost use mathlib.Core.Path.{_≡_};
 ghost use lib.ListN.{length};
 use libc::STDIN_FILENO;
 use libc::STDOUT_FILENO;
+use report::AREA_WORDS;
 use report::MOST_INPUT;
 use report::TABLE_BYTES;
 use report::TEXT_BYTES;
-
-// "with an area of 16,384 words"
-const AREA_WORDS: usize = 16384;
 
 fn main() {
     let mut head = [0u8; TABLE_BYTES];

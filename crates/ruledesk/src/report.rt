@@ -16,10 +16,13 @@ ghost use Rattle.rules.specs.Refusal.{said};
 ghost use Rattle.rules.specs.Header.{headerSize};
 ghost use Rattle.lookup.specs.Look.{lookSaid};
 ghost use Rattle.ruledesk.specs.InCode.{Puts, longSaid};
-ghost use Rattle.ruledesk.specs.Program.{mostInput, firstLines, inputText, Holds, Reports};
+ghost use Rattle.ruledesk.specs.Program.{areaWords, mostInput, firstLines, inputText, Holds, Reports};
 
 // "headers from standard input, at most 13,000 bytes"
 pub const MOST_INPUT: usize = 13000;
+
+// "with an area of 16,384 words"
+pub const AREA_WORDS: usize = 16384;
 
 // 256 rules; a longer table is refused by its length alone.
 pub const TABLE_BYTES: usize = 6144;
@@ -59,7 +62,7 @@ fn put_input(table: &[u8], area: &[u32], first: &[u8], whole: usize, out: &mut [
 
 // The text of a table that is held whole.
 fn put_report(table: &[u8], first: &[u8], whole: usize, area: &mut [u32], out: &mut [u8]) -> usize
-    requires { ⌜ (mostInput ≤ length (now first)) × (64000 ≤ length (now out)) ⌝ }
+    requires { ⌜ (mostInput ≤ length (now first)) × (length (now area) ≡ areaWords) × (64000 ≤ length (now out)) ⌝ }
     ensures { λ r. ⌜ ((input : List ℕ) → Bytes (now (table .entry)) → Holds input (now (first .entry)) whole
         → Reports (now (table .entry)) input (now (area .entry)) (now (out .entry)) r (now (out .exit)) (now (area .exit))) × (r ≤ 64000) ⌝ }
 {
@@ -87,7 +90,7 @@ pub fn report(
     file: usize,
     first: &[u8; MOST_INPUT],
     input: usize,
-    area: &mut [u32],
+    area: &mut [u32; AREA_WORDS],
     out: &mut [u8; TEXT_BYTES],
 ) -> usize
     ensures { λ r. ⌜ ((table bytes : List ℕ) → Holds table (now (head .entry)) file → Holds bytes (now (first .entry)) input
@@ -96,6 +99,7 @@ pub fn report(
 {
     let head: &[u8] = head;
     let first: &[u8] = first;
+    let area: &mut [u32] = area;
     let out: &mut [u8] = out;
     if file > TABLE_BYTES {
         return put_refusal_line(out, 0, long_table(file));

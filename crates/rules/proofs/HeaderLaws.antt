@@ -8,7 +8,7 @@ use native.Mathlib.Nat.{mod-lt, div-lt-iff-lt-mul, one-le-pow, zero-lt-suc, pow-
 use native.Mathlib.Omega.{arith}
 use lib.ListN.{length}
 use Rattle.bits.specs.Number.{Bytes, numberAt, bytesOf}
-use Rattle.bits.proofs.NumberLaws.{number-bytes}
+use Rattle.bits.proofs.NumberLaws.{bytes-append, number-bytes}
 use Rattle.rules.specs.declared.Header.{Header}
 use Rattle.rules.specs.Field.{fieldAt, valueIn}
 use Rattle.rules.specs.Rule.{spanOf, ruleOf}
@@ -21,11 +21,6 @@ use Rattle.rules.proofs.RuleLaws.{value-small}
 use Rattle.rules.proofs.OverlapLaws.{shown-fits}
 
 -- ---- bytes
-
-bytes-append : (l m : List ℕ) → Bytes l → Bytes m → Bytes (l ++ m)
-bytes-append [] m b c k = c k
-bytes-append (x ∷ l) m b c zero = b 0
-bytes-append (x ∷ l) m b c (suc k) = bytes-append l m (λ j. b (suc j)) c k
 
 bytes-small : (size v : ℕ) → v < 256 ^ size → Bytes (bytesOf size v)
 unfolding bytesOf

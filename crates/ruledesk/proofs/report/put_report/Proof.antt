@@ -13,14 +13,14 @@ returns c =
     let a = c .before .before .before .before .before .before .before .before .before .before .before .before .before .before .before .args in
     let put = c .before .before .put-refusal-line .ensures in
     let built = c .before .before .before .before .before .before .before .before .before .build .ensures in
-    (λ input bytes h. record { text = text-same (text-refused (now (a .table)) input (now (a .area)) built (c .before .before .before .before .before .refusal .given .1)) (put .0); lent = built .lent }, omega (arith, put .1))
+    (λ input bytes h. record { text = text-same (text-refused (now (a .table)) input (now (a .area)) (omega arith) built (c .before .before .before .before .before .refusal .given .1)) (put .0); lent = built .lent }, omega (arith, put .1))
 
 returns-2 : tie.Need-returns-2
 returns-2 c =
     let a = c .before .before .before .before .before .before .before .before .before .before .before .before .before .before .before .args in
     let put = c .before .before .put-input .ensures in
     let built = c .before .before .before .before .before .before .before .before .before .build .ensures in
-    (λ input bytes h. record { text = text-same (text-done (now (a .table)) input (now (a .area)) built (c .before .before .before .before .before .enum-told .given .1) bytes (h .each)) (put .0 input h); lent = built .lent }, put .1)
+    (λ input bytes h. record { text = text-same (text-done (now (a .table)) input (now (a .area)) (omega arith) built (c .before .before .before .before .before .enum-told .given .1) bytes (h .each)) (put .0 input h); lent = built .lent }, put .1)
 
 pub put-report-spec : {M : Type 1} → statement M
 put-report-spec =

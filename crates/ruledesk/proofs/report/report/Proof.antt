@@ -20,7 +20,7 @@ returns c =
     let long = c .before .long-table .ensures in (
       λ table bytes held h.
           let says = long ∙ ap longSaid (sym (held .size)) ∙ sym (long-refused table (now (a .area)) (omega (arith, held .size))) in
-          record { text = text-same (text-said table bytes (now (a .area)) _ says) (put .0); lent = left-refused table (now (a .area)) _ says },
+          record { text = text-same (text-said table bytes (now (a .area)) (omega arith) _ says) (put .0); lent = left-refused table (now (a .area)) _ says },
       counted _ _ (omega (arith, put .1, writes-kept (put .0))),
     )
 
@@ -29,12 +29,11 @@ slice-aggregate-put-report c = let a = c .before .before .before .before .before
 
 returns-2 : tie.Need-returns-2
 returns-2 c =
-    let a = c .before .before .before .before .before .before .before .before .before .before .args in
-    let put = c .before .before .put-report .ensures in (
+    let put = c .put-report .ensures in (
       λ table bytes held h.
           let whole = holds-whole held (omega arith) in
           report-same (sym whole) (put .0 bytes (subst Bytes whole (held .each)) h),
-      counted _ _ (omega (arith, put .1, c .before .before .put-report .kept)),
+      counted _ _ (omega (arith, put .1, c .put-report .kept)),
     )
 
 pub report-spec : {M : Type 1} → statement M
@@ -46,5 +45,4 @@ report-spec =
     returns
     slice-aggregate-put-report
     (λ c κs. search needs)
-    (λ c. search needs)
     returns-2)
