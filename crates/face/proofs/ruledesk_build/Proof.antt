@@ -1,0 +1,33 @@
+-- `ruledesk_build` meets its statement: what goes out is what the desk's call says, and what it leaves is left.
+-- Assumes nothing.
+use borrow.Author.Needs.{needs}
+use Rattle.desk.specs.BuildCall.{builtSaid}
+use Rattle.face.proofs.HandsLaws.{hands-call}
+use Rattle.face.proofs.ruledesk_build.Statement.{statement}
+use Rattle.face.proofs.ruledesk_build.Tie as tie
+
+returns : tie.Need-returns
+unfolding builtSaid
+returns c =
+    let met = c .before .before .before .before .before .before .build .ensures in
+    (hands-call builtSaid (c .before .before .words .given .1) (met .answer) (c .with-value .ensures), met .lent)
+
+returns-2 : tie.Need-returns-2
+unfolding builtSaid
+returns-2 c =
+    let met = c .before .before .before .before .before .before .build .ensures in
+    (hands-call builtSaid (c .before .before .refusal .given .1) (met .answer) (c .refused .ensures), met .lent)
+
+pub ruledesk-build-spec : {M : Type 1} → statement M
+ruledesk-build-spec =
+    tie.close
+    (tie.spec
+    (λ c κs. search needs)
+    (λ c. search needs)
+    (λ c κs. search needs)
+    (λ c. search needs)
+    (λ c κs. search needs)
+    (λ c. search needs)
+    returns
+    (λ c. search needs)
+    returns-2)
