@@ -3,3 +3,4 @@ pub mod HandsLaws
 pub mod ByteLaws
 pub mod PointsLaws
 pub mod Determined
+pub mod Enough

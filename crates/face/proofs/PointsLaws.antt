@@ -1,9 +1,9 @@
 -- The part of the table that stands at a place: it is empty exactly where no whole record stands there.
 -- Assumes nothing.
-use mathlib.Core.Path.{_≡_, refl, sym, ap, _∙_}
+use mathlib.Core.Path.{_≡_, ap, _∙_}
 use mathlib.Core.Logic.{⊎-elim}
 use mathlib.Core.List.{List, []}
-use Prim.Native.Nat.{ℕ, _+_, _*_, _/_, _≤_, _<_}
+use Prim.Native.Nat.{ℕ, _*_, _≤_, _<_}
 use native.Mathlib.Omega.{arith}
 use lib.ListN.{length}
 use borrow.Author.Tests.{lt-ltb, le-ltb}
@@ -26,7 +26,7 @@ module _ (table : List ℕ) (place : ℕ) where
   full h = ap length (inside h) ∙ length-record table place (omega arith)
 
   module _ (part : List ℕ) (shows : part ≡ shownPart table place) where
-    pub none-there : length part ≡ 0 → ruleCount table ≤ place
+    none-there : length part ≡ 0 → ruleCount table ≤ place
     none-there e = ⊎-elim (λ (h : place < ruleCount table). omega (arith, e, full h, ap length shows)) (λ h. h) (less place (ruleCount table))
 
     pub one-there : (length part ≡ 0 → ⊥) → place < ruleCount table

@@ -29,6 +29,7 @@ pub struct Part {
     pub length: usize,
 }
 
+// Done carries the number of words that the index takes.
 #[no_mangle]
 pub extern "C" fn ruledesk_build(table: &[u8], area: &mut [u32]) -> Answer
     ensures { λ r. ⌜ Hands (buildSaid (now (table .entry)) (now (area .entry))) r ⌝ }
@@ -40,6 +41,7 @@ pub extern "C" fn ruledesk_build(table: &[u8], area: &mut [u32]) -> Answer
     }
 }
 
+// Done carries the number of false blocks; then 1, the place, the action's kind and its feed, or 0 where no rule matches.
 #[no_mangle]
 pub extern "C" fn ruledesk_lookup(table: &[u8], area: &[u32], header: &[u8]) -> Answer
     ensures { λ r. ⌜ Hands (lookSaid (now (table .entry)) (now (area .entry)) (now (header .entry))) r ⌝ }
@@ -50,6 +52,7 @@ pub extern "C" fn ruledesk_lookup(table: &[u8], area: &[u32], header: &[u8]) -> 
     }
 }
 
+// Done carries the number of pairs.
 #[no_mangle]
 pub extern "C" fn ruledesk_pairs(table: &[u8], list: &mut [u16]) -> Answer
     ensures { λ r. ⌜ Hands (pairsSaid (now (table .entry)) (now (list .entry))) r ⌝ }
@@ -61,6 +64,7 @@ pub extern "C" fn ruledesk_pairs(table: &[u8], list: &mut [u16]) -> Answer
     }
 }
 
+// Done carries nothing.
 #[no_mangle]
 pub extern "C" fn ruledesk_judge(table: &[u8], order: &[u16], output: &mut [u8]) -> Answer
     ensures { λ r. ⌜ Hands (judgeSaid (now (table .entry)) (now (order .entry)) (now (output .entry))) r ⌝ }
