@@ -1,0 +1,30 @@
+-- `put_numbers` ends, and keeps the length of the reply's buffer.
+-- Assumes nothing.
+use mathlib.Core.Path.{_≡_}
+use Prim.Native.Nat.{_-_}
+use borrow.Author.Needs.{needs}
+use lib.ListN.{length}
+use Rattle.served.proofs.reply.put_numbers.Statement.{statement}
+use Rattle.served.proofs.reply.put_numbers.Tie as tie
+
+abbrev Inv-loop : tie.InvT-loop
+Inv-loop wire₀ at bytes next₀ i₀ i-end wire next i = length wire ≡ length wire₀
+
+abbrev μ-loop : tie.MeasureT-loop
+μ-loop wire₀ at bytes next₀ i₀ i-end wire next i = i-end - i
+
+pub put-numbers-spec : {M : Type 1} → statement M
+put-numbers-spec =
+    tie.close
+    (tie.spec
+    Inv-loop
+    μ-loop
+    (λ c. search needs)
+    (λ c. search needs)
+    (λ c κs. search needs)
+    (λ c κs. search needs)
+    (λ c. search needs)
+    (λ c. search needs)
+    (λ c. search needs)
+    (λ c. search needs)
+    (λ c. search needs))

@@ -1,0 +1,89 @@
+// Writing a reply: its bytes are collected in the buffer and go out by one write. Each function puts
+// something at a place of the buffer and answers the place after it. The buffer holds the longest
+// reply; beyond its end nothing is put.
+use libc::STDOUT_FILENO;
+
+// Writes the collected bytes; whether all of them went out.
+pub fn send(wire: &[u8], end: usize) -> bool {
+    if end <= wire.len() {
+        io::write_all(STDOUT_FILENO, &wire[0..end])
+    } else {
+        false
+    }
+}
+
+// The value's lowest 8 bits.
+fn put_byte(wire: &mut [u8], at: usize, value: usize) -> usize {
+    if at < wire.len() {
+        wire[at] = (value % 256) as u8;
+        at + 1
+    } else {
+        at
+    }
+}
+
+// The value's lowest 16 bits.
+fn put_half(wire: &mut [u8], at: usize, value: usize) -> usize {
+    let next = put_byte(wire, at, value / 256);
+    put_byte(wire, next, value)
+}
+
+// The value's lowest 32 bits. Every number of the protocol has no more.
+pub fn put_number(wire: &mut [u8], at: usize, value: usize) -> usize {
+    let next = put_half(wire, at, value / 65536);
+    put_half(wire, next, value)
+}
+
+pub fn put_three(wire: &mut [u8], at: usize, first: usize, second: usize, third: usize) -> usize {
+    let next = put_number(wire, at, first);
+    let last = put_number(wire, next, second);
+    put_number(wire, last, third)
+}
+
+// The lent words of an area.
+pub fn put_words(wire: &mut [u8], at: usize, words: &[u32]) -> usize {
+    let mut next = at;
+    for i in 0..words.len() {
+        next = put_number(wire, next, size(words[i]));
+    }
+    next
+}
+
+// The lent entries of a list.
+pub fn put_entries(wire: &mut [u8], at: usize, entries: &[u16]) -> usize {
+    let mut next = at;
+    for i in 0..entries.len() {
+        next = put_half(wire, next, entry_size(entries[i]));
+    }
+    next
+}
+
+// The lent bytes of an output.
+pub fn put_bytes(wire: &mut [u8], at: usize, bytes: &[u8]) -> usize {
+    let mut next = at;
+    for i in 0..bytes.len() {
+        next = put_byte(wire, next, byte_size(bytes[i]));
+    }
+    next
+}
+
+// Bytes in an answer, each as a number.
+pub fn put_numbers(wire: &mut [u8], at: usize, bytes: &[u8]) -> usize {
+    let mut next = at;
+    for i in 0..bytes.len() {
+        next = put_number(wire, next, byte_size(bytes[i]));
+    }
+    next
+}
+
+fn size(word: u32) -> usize {
+    word as usize
+}
+
+fn entry_size(entry: u16) -> usize {
+    entry as usize
+}
+
+fn byte_size(byte: u8) -> usize {
+    byte as usize
+}
