@@ -1,13 +1,12 @@
 -- How much memory always suffices, as `include/ruledesk.h` and the Rust wrapper say: from the number of rules alone.
 -- Assumes nothing.
 use mathlib.Core.Path.{_≡_, ap}
-use mathlib.Core.Bool.{Bool}
 use mathlib.Core.List.{List}
 use Prim.Native.Nat.{ℕ, zero, suc, _+_, _-_, _*_, _≤_, _<_}
 use native.Mathlib.Nat.{mul-suc, suc-mul}
 use native.Mathlib.Numerals.{add-one}
 use native.Mathlib.Omega.{arith}
-use lib.ListN.{length, take}
+use lib.ListN.{length, take, length-append}
 use Rattle.bits.specs.Path.{Path}
 use Rattle.bits.specs.Tests.{upFrom}
 use Rattle.rules.specs.Field.{fieldAt}
@@ -18,8 +17,8 @@ use Rattle.index.specs.Keys.{inserts}
 use Rattle.index.specs.Need.{fresh, records, need}
 use Rattle.index.specs.Steps.{pathOf}
 use Rattle.index.proofs.NeedLaws.{oneEach, rule-inserts, records-more, records-none, records-all, length-path}
-use Rattle.overlap.specs.Pairs.{Pair, triangle, keep, listed, onPair}
-use Rattle.overlap.proofs.LoopLaws.{row-few, count-rows, count-rows-over, pairs-all}
+use Rattle.overlap.specs.Steps.{listedWith, listedFrom}
+use Rattle.overlap.proofs.LoopLaws.{row-few, rows-parts, rows-done, rows-all}
 use Rattle.desk.specs.BuildCall.{wordsNeeded}
 use Rattle.desk.specs.PairsCall.{pairCount}
 use Rattle.desk.proofs.BuildLaws.{all-sound}
@@ -55,12 +54,19 @@ module _ (table : List ℕ) (ok : Accepted table) where
 square : (m : ℕ) → suc m * suc m ≡ m * m + 2 * m + 1
 square m = omega (arith, suc-mul m (suc m), mul-suc m m)
 
-module _ (test : Pair → Bool) (n : ℕ) where
-  -- of the last m places
-  kept-few : (m i : ℕ) → i + m ≡ n → 2 * length (keep test (triangle i (n - i))) + m ≤ m * m
-  kept-few zero i e = omega (arith, count-rows-over test n i (omega arith))
-  kept-few (suc m) i e =
-      omega (arith, count-rows test n i (omega arith), row-few test i (i + 1) (n - (i + 1)), kept-few m (i + 1) (omega arith), square m)
+-- of the last m places
+listed-few : (table : List ℕ) (m i : ℕ) → i + m ≡ ruleCount table → 2 * length (listedFrom table i) + m ≤ m * m
+listed-few table zero i e = omega (arith, ap length (rows-done table i (omega arith)))
+listed-few table (suc m) i e =
+    let n = ruleCount table in
+    omega (
+      arith,
+      ap length (rows-parts table i (omega arith)),
+      length-append (listedWith table i) (listedFrom table (i + 1)),
+      row-few table i (i + 1) (n - (i + 1)),
+      listed-few table m (i + 1) (omega arith),
+      square m,
+    )
 
 less-itself : (n k : ℕ) → k + n ≤ n * n → k ≤ n * (n - 1)
 less-itself zero k h = omega arith
@@ -71,4 +77,4 @@ less-itself (suc m) k h =
 pub enough-entries : (table : List ℕ) → 2 * pairCount table ≤ ruleCount table * (ruleCount table - 1)
 enough-entries table =
     let n = ruleCount table in
-    less-itself n (2 * pairCount table) (omega (arith, kept-few (onPair listed (rulesOf table)) n n 0 (omega arith), ap length (pairs-all table)))
+    less-itself n (2 * pairCount table) (omega (arith, listed-few table n 0 (omega arith), ap length (rows-all table)))
