@@ -57,6 +57,12 @@ enum {
     RULEDESK_NOT_ALLOWED = 13     /* the move is not allowed: lower place, higher place, the 13 bytes of a header */
 };
 
+/* The kinds of an action. */
+enum {
+    RULEDESK_HOLD = 0,    /* the packet is held; the feed is 0 */
+    RULEDESK_DELIVER = 1  /* the packet is delivered to the feed */
+};
+
 /* An answer: its number, how many values it carries, and these values. The values after them are zero. */
 typedef struct {
     uint32_t number;

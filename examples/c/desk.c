@@ -49,6 +49,17 @@ static void build(const char *name, const uint8_t *table, uint32_t *area, size_t
     }
 }
 
+static void say_action(uint64_t kind, uint64_t feed) {
+    switch (kind) {
+    case RULEDESK_HOLD:
+        printf(" hold");
+        break;
+    case RULEDESK_DELIVER:
+        printf(" deliver %" PRIu64, feed);
+        break;
+    }
+}
+
 /* From a.0.0.1 to b.0.0.1, with ports and protocol 0. */
 static void look_up(const uint32_t *area, uint8_t a, uint8_t b, size_t header_length) {
     const uint8_t header[RULEDESK_HEADER_BYTES] = {a, 0, 0, 1, b, 0, 0, 1};
@@ -60,10 +71,9 @@ static void look_up(const uint32_t *area, uint8_t a, uint8_t b, size_t header_le
     }
     if (answer.values[1] == 0) {
         printf("none");
-    } else if (answer.values[3] == 0) {
-        printf("match %" PRIu64 " hold", answer.values[2]);
     } else {
-        printf("match %" PRIu64 " deliver %" PRIu64, answer.values[2], answer.values[4]);
+        printf("match %" PRIu64, answer.values[2]);
+        say_action(answer.values[3], answer.values[4]);
     }
     printf(", false blocks %" PRIu64 "\n", answer.values[0]);
 }

@@ -67,6 +67,16 @@ pub enum Action {
     Deliver(u8),
 }
 
+impl Action {
+    fn from_values(kind: u64, feed: u64) -> Action {
+        match kind {
+            0 => Action::Hold,
+            1 => Action::Deliver(feed as u8),
+            _ => unreachable!("the desk's kinds end at 1"),
+        }
+    }
+}
+
 /// The rule that a header found.
 #[derive(Clone, Copy, Debug, PartialEq, Eq)]
 pub struct Match {
@@ -104,14 +114,9 @@ pub fn build(table: &[u8], area: &mut [u32]) -> Result<usize, Refusal> {
 pub fn lookup(table: &[u8], area: &[u32], header: &[u8]) -> Result<Found, Refusal> {
     let [false_blocks, matched, place, kind, feed, ..] =
         refusal::done(foreign::lookup(table, area, header))?;
-    let action = if kind == 0 {
-        Action::Hold
-    } else {
-        Action::Deliver(feed as u8)
-    };
-    let rule = (matched == 1).then_some(Match {
+    let rule = (matched == 1).then(|| Match {
         place: place as usize,
-        action,
+        action: Action::from_values(kind, feed),
     });
     Ok(Found {
         rule,
