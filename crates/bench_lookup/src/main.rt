@@ -5,46 +5,26 @@ use libc::STDERR_FILENO;
 use libc::STDOUT_FILENO;
 use lookup::Looked;
 use lookup::Outcome;
-ghost use mathlib.Core.Path.{_≡_};
-ghost use lib.ListN.{length};
+use samples::Pattern;
+use trial::report;
 
 fn main() {
     let mut table = [0u8; 6144];
-    fill(&mut table);
-    let mut area = words();
-    say(
-        STDOUT_FILENO,
-        b"256 rules, words: ",
-        taken(desk::build(&table, &mut area)),
-    );
-    measure(&table, &area);
-}
-
-fn words() -> [u32; 131072]
-    ensures { λ r. ⌜ 131072 ≡ length r ⌝ }
-{
-    [0; 131072]
-}
-
-// The words that a build took, 0 where it was refused.
-fn taken(built: Built) -> u64 {
-    match built {
-        Built::Done(words) => words as u64,
-        Built::Refused(_) => 0,
+    samples::fill(&mut table, Pattern::Traffic);
+    let mut area = samples::large_area();
+    if let Built::Done(words) = desk::build(&table, &mut area) {
+        report(STDOUT_FILENO, b"256 rules, words: ", words as u64);
     }
+    measure(&table, &area);
 }
 
 fn measure(table: &[u8], area: &[u32]) {
     let mut header = [0u8; 13];
-    let start = clock();
+    let start = trial::clock();
     let matches = look_often(table, area, &mut header);
-    let end = clock();
-    say(
-        STDERR_FILENO,
-        b"microseconds for 1000000 lookups: ",
-        passed(start, end),
-    );
-    say(STDOUT_FILENO, b"1000000 lookups, matches: ", matches);
+    let time = trial::since(start);
+    report(STDERR_FILENO, b"microseconds for 1000000 lookups: ", time);
+    report(STDOUT_FILENO, b"1000000 lookups, matches: ", matches);
 }
 
 fn look_often(table: &[u8], area: &[u32], header: &mut [u8]) -> u64 {
@@ -131,58 +111,6 @@ fn other(header: &mut [u8], i: usize) {
     put(header, 4, i / 5);
 }
 
-fn passed(start: u64, end: u64) -> u64 {
-    if start <= end { end - start } else { 0 }
-}
-
-// The processor time used so far.
-fn clock() -> u64 {
-    unsigned(libc::clock())
-}
-
-fn unsigned(time: i64) -> u64 {
-    if time > 0 { time as u64 } else { 0 }
-}
-
-// 256 rules: addresses to 24 and 16 bits, an exact destination port, one of two protocols.
-fn fill(table: &mut [u8]) {
-    for i in 0..256usize {
-        rule(table, i);
-    }
-}
-
-fn rule(table: &mut [u8], place: usize) {
-    let i = place % 256;
-    let start = i * 24;
-    put(table, start, i * 167 + 13);
-    put(table, start + 1, i * 59 + 101);
-    put(table, start + 2, i * 211 + 7);
-    put(table, start + 4, i * 89 + 3);
-    put(table, start + 5, i * 151 + 77);
-    put(table, start + 10, i / 16);
-    put(table, start + 11, i * 73 + 80);
-    put(table, start + 12, 6 + (i % 2) * 11);
-    lengths(table, start);
-}
-
-fn lengths(table: &mut [u8], start: usize) {
-    if start < 6144 {
-        put(table, start + 13, 24);
-        put(table, start + 14, 16);
-        put(table, start + 16, 16);
-        put(table, start + 17, 8);
-        put(table, start + 18, 1);
-    }
-}
-
-fn put(bytes: &mut [u8], at: usize, value: usize) {
-    if at < bytes.len() {
-        bytes[at] = (value % 256) as u8;
-    }
-}
-
-fn say(fd: i32, text: &[u8], number: u64) {
-    io::write_all(fd, text);
-    io::print_decimal(fd, number);
-    io::write_all(fd, b"\n");
+fn put(header: &mut [u8], at: usize, value: usize) {
+    samples::put_byte(header, at, (value % 256) as u8);
 }

@@ -1,19 +1,19 @@
 // Looks up headers over the index of the six rules: whole, cut short and damaged, with wrong headers
 // and tables, and with a table that was changed after the build. Prints what is answered.
 use desk::Built;
-use libc::STDOUT_FILENO;
 use lookup::Answer;
 use lookup::Looked;
 use lookup::Outcome;
 use rules::Action;
-use rules::Place;
-use rules::Refusal;
+use samples::put_byte;
+use trial::number;
+use trial::refused;
+use trial::say;
 
 fn main() {
     let mut table = [0u8; 6192];
     let mut area = [0u32; 209];
-    six_rules(&mut table);
-    build(&table, &mut area);
+    build(&mut table, &mut area);
     headers(&table, &area);
     no_headers(&table, &area);
     lengths(&table, &area);
@@ -25,34 +25,9 @@ fn main() {
     cut_short(&table, &area);
 }
 
-// The six rules of 001's Fig. 1.
-fn six_rules(table: &mut [u8]) {
-    rule(table, 0, 0, 1, 128, 2, 10);
-    rule(table, 1, 0, 2, 128, 1, 100);
-    rule(table, 2, 192, 2, 192, 2, 10);
-    rule(table, 3, 224, 3, 224, 3, 100);
-    rule(table, 4, 160, 3, 128, 2, 100);
-    rule(table, 5, 0, 0, 64, 2, 10);
-}
-
-// A rule that delivers, of the first byte and the length of each address.
-fn rule(table: &mut [u8], place: usize, source: u8, slen: u8, destination: u8, dlen: u8, feed: u8) {
-    let start = (place % 256) * 24;
-    put(table, start, source);
-    put(table, start + 4, destination);
-    put(table, start + 13, slen);
-    put(table, start + 14, dlen);
-    put(table, start + 18, 1);
-    put(table, start + 19, feed);
-}
-
-fn put(bytes: &mut [u8], at: usize, byte: u8) {
-    if at < bytes.len() {
-        bytes[at] = byte;
-    }
-}
-
-fn build(table: &[u8], area: &mut [u32]) {
+// The six rules, and their index.
+fn build(table: &mut [u8], area: &mut [u32]) {
+    samples::six_rules(table);
     if 144 <= table.len() {
         match desk::build(&table[0..144], area) {
             Built::Done(words) => {
@@ -190,14 +165,14 @@ fn changed(table: &mut [u8], area: &[u32]) {
 }
 
 fn long_prefix(table: &mut [u8], area: &[u32]) {
-    put(table, 13, 33);
+    put_byte(table, 13, 33);
     action(b"length 33", table, area, 1, 10);
-    put(table, 13, 1);
+    put_byte(table, 13, 1);
 }
 
 fn action(name: &[u8], table: &mut [u8], area: &[u32], kind: u8, feed: u8) {
-    put(table, 18, kind);
-    put(table, 19, feed);
+    put_byte(table, 18, kind);
+    put_byte(table, 19, feed);
     part(name, table, 144, area, 198);
 }
 
@@ -278,6 +253,7 @@ fn ask(name: &[u8], table: &[u8], bytes: usize, area: &[u32], words: usize, head
             Looked::Found(answer) => found(answer),
             Looked::Refused(refusal) => refused(refusal),
         }
+        say(b"\n");
     }
 }
 
@@ -292,7 +268,7 @@ fn found(answer: Answer) {
         }
     }
     number(answer.falses as u64);
-    say(b" false blocks\n");
+    say(b" false blocks");
 }
 
 fn acted(action: Action) {
@@ -304,26 +280,4 @@ fn acted(action: Action) {
             say(b",");
         }
     }
-}
-
-fn refused(refusal: Refusal) {
-    say(b": refused");
-    number(rules::number_of(refusal));
-    match rules::place_of(refusal) {
-        Place::At(place) => {
-            say(b" at");
-            number(place as u64);
-        }
-        Place::Nowhere => {}
-    }
-    say(b"\n");
-}
-
-fn number(value: u64) {
-    say(b" ");
-    io::print_decimal(STDOUT_FILENO, value);
-}
-
-fn say(text: &[u8]) {
-    io::write_all(STDOUT_FILENO, text);
 }

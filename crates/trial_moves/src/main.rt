@@ -2,24 +2,24 @@
 // prints what they answer and what they leave.
 use desk::Judged;
 use desk::Paired;
-use libc::STDOUT_FILENO;
 use rules::Crossing;
-use rules::Place;
 use rules::Refusal;
-ghost use lib.ListN.{length};
+use samples::Pattern;
+use trial::number;
+use trial::say;
 
 fn main() {
     let mut table = [0u8; 6144];
     let mut output = [9u8; 6144];
-    six_rules(&mut table);
+    samples::six_rules(&mut table);
     pair_lists(&table);
     allowed_orders(&table, &mut output);
     refused_orders(&table, &mut output);
     bad_orders(&table, &mut output);
     nothing(&table, &mut output);
-    alike(&mut table, 1);
+    samples::fill(&mut table, Pattern::Equal);
     reversed(b"256 equal rules reversed", &table, &mut output);
-    alike(&mut table, 256);
+    samples::fill(&mut table, Pattern::OwnFeed);
     reversed(b"256 feeds reversed", &table, &mut output);
 }
 
@@ -47,8 +47,8 @@ fn listed(name: &[u8], table: &[u8], bytes: usize, list: &mut [u16], entries: us
 }
 
 fn counted(count: usize) {
-    say(b": ");
-    io::print_decimal(STDOUT_FILENO, count as u64);
+    say(b":");
+    number(count as u64);
     say(b" pairs");
 }
 
@@ -135,7 +135,7 @@ fn nothing(table: &[u8], output: &mut [u8]) {
 
 fn reversed(name: &[u8], table: &[u8], output: &mut [u8]) {
     let mut order = [0u16; 256];
-    reverse(&mut order);
+    samples::reverse(&mut order);
     judged(name, table, 6144, &order, output, 6144);
 }
 
@@ -189,21 +189,8 @@ fn byte(value: u8) {
     number(value as u64);
 }
 
-fn number(value: u64) {
-    say(b" ");
-    io::print_decimal(STDOUT_FILENO, value);
-}
-
 fn refused(refusal: Refusal) {
-    say(b": refused ");
-    io::print_decimal(STDOUT_FILENO, rules::number_of(refusal));
-    match rules::place_of(refusal) {
-        Place::At(place) => {
-            say(b" at ");
-            io::print_decimal(STDOUT_FILENO, place as u64);
-        }
-        Place::Nowhere => {}
-    }
+    trial::refused(refusal);
     if let Refusal::NotAllowed(crossing) = refusal {
         crossed(crossing);
     }
@@ -219,64 +206,4 @@ fn crossed(crossing: Crossing) {
     number(crossing.header.sport as u64);
     number(crossing.header.dport as u64);
     number(crossing.header.protocol as u64);
-}
-
-// The six rules of 001's Fig. 1.
-fn six_rules(table: &mut [u8]) {
-    rule(table, 0, 0, 1, 128, 2, 10);
-    rule(table, 1, 0, 2, 128, 1, 100);
-    rule(table, 2, 192, 2, 192, 2, 10);
-    rule(table, 3, 224, 3, 224, 3, 100);
-    rule(table, 4, 160, 3, 128, 2, 100);
-    rule(table, 5, 0, 0, 64, 2, 10);
-}
-
-// 256 rules that match everything: the first ones to feeds of their own, the others to feed 0.
-fn alike(table: &mut [u8], feeds: usize) {
-    for i in 0..256usize {
-        wide_rule(table, i, feeds);
-    }
-}
-
-fn wide_rule(table: &mut [u8], place: usize, feeds: usize) {
-    let feed = place % 256;
-    if feed < feeds {
-        rule(table, place, 0, 0, 0, 0, feed as u8);
-    } else {
-        rule(table, place, 0, 0, 0, 0, 0);
-    }
-}
-
-// A rule that delivers, of the first byte and the length of each address.
-fn rule(table: &mut [u8], place: usize, source: u8, slen: u8, destination: u8, dlen: u8, feed: u8) {
-    let start = (place % 256) * 24;
-    put(table, start, source);
-    put(table, start + 4, destination);
-    put(table, start + 13, slen);
-    put(table, start + 14, dlen);
-    put(table, start + 18, 1);
-    put(table, start + 19, feed);
-}
-
-fn put(bytes: &mut [u8], at: usize, byte: u8) {
-    if at < bytes.len() {
-        bytes[at] = byte;
-    }
-}
-
-// 255 down to 0.
-fn reverse(order: &mut [u16]) {
-    for i in 0..256usize {
-        last_first(order, i);
-    }
-}
-
-fn last_first(order: &mut [u16], i: usize) {
-    if i < order.len() {
-        order[i] = (255 - i % 256) as u16;
-    }
-}
-
-fn say(text: &[u8]) {
-    io::write_all(STDOUT_FILENO, text);
 }

@@ -1,9 +1,10 @@
 // Runs the record rules on small tables and headers and prints what they answer, a line each.
-use libc::STDOUT_FILENO;
 use rules::Checked;
 use rules::Heard;
-use rules::Place;
-use rules::Refusal;
+use samples::put_byte;
+use trial::number;
+use trial::refused;
+use trial::say;
 
 fn main() {
     lengths();
@@ -89,23 +90,17 @@ fn rule_with(name: &[u8], at: usize, byte: u8) {
 
 fn rule_with_two(name: &[u8], at: usize, byte: u8, also_at: usize, also: u8) {
     let mut rule = [0u8; 24];
-    put(&mut rule, at, byte);
-    put(&mut rule, also_at, also);
+    put_byte(&mut rule, at, byte);
+    put_byte(&mut rule, also_at, also);
     report(name, &rule);
 }
 
 // Three rules of zeros with two other bytes.
 fn two_places(name: &[u8], at: usize, byte: u8, also_at: usize, also: u8) {
     let mut table = [0u8; 72];
-    put(&mut table, at, byte);
-    put(&mut table, also_at, also);
+    put_byte(&mut table, at, byte);
+    put_byte(&mut table, also_at, also);
     report(name, &table);
-}
-
-fn put(bytes: &mut [u8], at: usize, byte: u8) {
-    if at < bytes.len() {
-        bytes[at] = byte;
-    }
 }
 
 fn zeros(name: &[u8], length: usize) {
@@ -118,24 +113,24 @@ fn header(name: &[u8], length: usize) {
     let bytes = [7u8; 14];
     match rules::read_header(front(&bytes, length)) {
         Heard::Values(values) => {
-            say(b": ");
-            io::print_decimal(STDOUT_FILENO, values.source as u64);
-            say(b" to port ");
-            io::print_decimal(STDOUT_FILENO, values.dport as u64);
-            say(b", protocol ");
-            io::print_decimal(STDOUT_FILENO, values.protocol as u64);
-            say(b"\n");
+            say(b":");
+            number(values.source as u64);
+            say(b" to port");
+            number(values.dport as u64);
+            say(b", protocol");
+            number(values.protocol as u64);
         }
         Heard::Refused(refusal) => refused(refusal),
     }
+    say(b"\n");
 }
 
 fn show(name: &[u8], length: usize, place: usize) {
     let bytes = io::large_buffer();
     let part = desk::show(front(&bytes, length), place);
     say(name);
-    say(b": ");
-    io::print_decimal(STDOUT_FILENO, part.len() as u64);
+    say(b":");
+    number(part.len() as u64);
     say(b" bytes\n");
 }
 
@@ -151,24 +146,8 @@ fn front(bytes: &[u8], length: usize) -> &[u8] {
 fn report(name: &[u8], table: &[u8]) {
     say(name);
     match rules::check_table(table) {
-        Checked::Accepted => say(b": accepted\n"),
+        Checked::Accepted => say(b": accepted"),
         Checked::Refused(refusal) => refused(refusal),
     }
-}
-
-fn refused(refusal: Refusal) {
-    say(b": refused ");
-    io::print_decimal(STDOUT_FILENO, rules::number_of(refusal));
-    match rules::place_of(refusal) {
-        Place::At(place) => {
-            say(b" at ");
-            io::print_decimal(STDOUT_FILENO, place as u64);
-        }
-        Place::Nowhere => {}
-    }
     say(b"\n");
-}
-
-fn say(text: &[u8]) {
-    io::write_all(STDOUT_FILENO, text);
 }

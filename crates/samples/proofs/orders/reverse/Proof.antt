@@ -1,20 +1,20 @@
--- `alike` ends, and keeps the table's length.
+-- `reverse` ends, and keeps the order's length.
 -- Assumes nothing.
 use mathlib.Core.Path.{_≡_}
 use Prim.Native.Nat.{_-_}
 use borrow.Author.Needs.{needs}
 use lib.ListN.{length}
-use Rattle.trial_moves.proofs.alike.Statement.{statement}
-use Rattle.trial_moves.proofs.alike.Tie as tie
+use Rattle.samples.proofs.orders.reverse.Statement.{statement}
+use Rattle.samples.proofs.orders.reverse.Tie as tie
 
 abbrev Inv-loop : tie.InvT-loop
-Inv-loop table₀ feeds i₀ table i = length table ≡ length table₀
+Inv-loop order₀ i₀ i-end order i = length order ≡ length order₀
 
 abbrev μ-loop : tie.MeasureT-loop
-μ-loop table₀ feeds i₀ table i = 256 - i
+μ-loop order₀ i₀ i-end order i = i-end - i
 
-pub alike-spec : {M : Type 1} → statement M
-alike-spec =
+pub reverse-spec : {M : Type 1} → statement M
+reverse-spec =
     tie.close
     (tie.spec
     Inv-loop

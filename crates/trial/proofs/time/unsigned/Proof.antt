@@ -9,8 +9,8 @@ use mir.Syntax.{w64}
 use mir.Val.{toZ, ofZ}
 use mir.Facts.{fits-natAbs, sfits-toZ, fits-ofZ}
 use borrow.Author.Needs.{needs}
-use Rattle.bench_moves.proofs.unsigned.Statement.{statement}
-use Rattle.bench_moves.proofs.unsigned.Tie as tie
+use Rattle.trial.proofs.time.unsigned.Statement.{statement}
+use Rattle.trial.proofs.time.unsigned.Tie as tie
 
 positive : (z : ℤ) → ltZ (pos 0) z ≡ true → T (nonNeg z)
 positive (pos n) e = tt

@@ -1,0 +1,2 @@
+-- Laws of the sample tables.
+pub mod SampleLaws

@@ -1,0 +1,2 @@
+-- What is written into a sample table.
+pub mod Sample
