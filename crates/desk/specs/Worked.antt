@@ -16,7 +16,7 @@ use Rattle.desk.specs.JudgeCall.{judgeSaid}
 -- ---- the six rules of 001, Fig. 1: source and destination address carry the two fields, all deliver
 
 -- a rule over two addresses given by their first bytes: a/l to b/m, with kind and feed
-abbrev twoFields : ℕ → ℕ → ℕ → ℕ → ℕ → ℕ → List ℕ
+abbrev pub twoFields : ℕ → ℕ → ℕ → ℕ → ℕ → ℕ → List ℕ
 twoFields a l b m kind feed =
     a ∷ 0 ∷ 0 ∷ 0 ∷ b ∷ 0 ∷ 0 ∷ 0 ∷ 0 ∷ 0 ∷ 0 ∷ 0 ∷ 0 ∷ l ∷ m ∷ 0 ∷ 0 ∷ 0 ∷ kind ∷ feed ∷ 0 ∷ 0 ∷ 0 ∷ 0 ∷ []
 
