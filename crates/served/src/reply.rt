@@ -1,12 +1,12 @@
-// Writing a reply: its bytes are collected in the buffer and go out by one write. Each function puts
-// something at a place of the buffer and answers the place after it. The buffer holds the longest
-// reply; beyond its end nothing is put.
+// Writing a reply: numbers, words and entries are collected in a buffer and go out by one write. Each
+// function puts something at a place of the buffer and answers the place after it. The buffer holds
+// the longest reply; beyond its end nothing is put.
 use libc::STDOUT_FILENO;
 
-// Writes the collected bytes; whether all of them went out.
-pub fn send(wire: &[u8], end: usize) -> bool {
-    if end <= wire.len() {
-        io::write_all(STDOUT_FILENO, &wire[0..end])
+// Writes the bytes before the end; whether all of them went out.
+pub fn send(bytes: &[u8], end: usize) -> bool {
+    if end <= bytes.len() {
+        io::write_all(STDOUT_FILENO, &bytes[0..end])
     } else {
         false
     }
@@ -34,17 +34,11 @@ pub fn put_number(wire: &mut [u8], at: usize, value: usize) -> usize {
     put_half(wire, next, value)
 }
 
-pub fn put_three(wire: &mut [u8], at: usize, first: usize, second: usize, third: usize) -> usize {
-    let next = put_number(wire, at, first);
-    let last = put_number(wire, next, second);
-    put_number(wire, last, third)
-}
-
 // The lent words of an area.
 pub fn put_words(wire: &mut [u8], at: usize, words: &[u32]) -> usize {
     let mut next = at;
     for i in 0..words.len() {
-        next = put_number(wire, next, size(words[i]));
+        next = put_number(wire, next, words[i] as usize);
     }
     next
 }
@@ -53,37 +47,7 @@ pub fn put_words(wire: &mut [u8], at: usize, words: &[u32]) -> usize {
 pub fn put_entries(wire: &mut [u8], at: usize, entries: &[u16]) -> usize {
     let mut next = at;
     for i in 0..entries.len() {
-        next = put_half(wire, next, entry_size(entries[i]));
+        next = put_half(wire, next, entries[i] as usize);
     }
     next
-}
-
-// The lent bytes of an output.
-pub fn put_bytes(wire: &mut [u8], at: usize, bytes: &[u8]) -> usize {
-    let mut next = at;
-    for i in 0..bytes.len() {
-        next = put_byte(wire, next, byte_size(bytes[i]));
-    }
-    next
-}
-
-// Bytes in an answer, each as a number.
-pub fn put_numbers(wire: &mut [u8], at: usize, bytes: &[u8]) -> usize {
-    let mut next = at;
-    for i in 0..bytes.len() {
-        next = put_number(wire, next, byte_size(bytes[i]));
-    }
-    next
-}
-
-fn size(word: u32) -> usize {
-    word as usize
-}
-
-fn entry_size(entry: u16) -> usize {
-    entry as usize
-}
-
-fn byte_size(byte: u8) -> usize {
-    byte as usize
 }

@@ -1,140 +1,80 @@
-// Reading a request: the op, counts within the protocol's limits, and as many bytes, words or entries
-// as a count says.
+// Reading a request: the op, numbers, and as many bytes, words or entries as the number before them
+// says. What was read stands at the start of its buffer, and where it ends is answered.
+use crate::NONE;
 use libc::STDIN_FILENO;
-ghost use Prim.Native.Nat.{_≤_};
-ghost use lib.ListN.{length};
 
-pub const MOST_TABLE_BYTES: usize = 8192;
+pub const END: u8 = 0;
 
-const MOST_AREA_WORDS: usize = 65536;
+pub const HEADER_BYTES: usize = 13;
 
-pub const MOST_HEADER_BYTES: usize = 64;
-
-pub const MOST_LIST_ENTRIES: usize = 66000;
-
-pub const MOST_ORDER_ENTRIES: usize = 600;
-
-pub const MOST_OUTPUT_BYTES: usize = 8192;
-
-const MOST_HEADERS: usize = 1000;
-
-// What was read: all that was due, and how much that is, or not all of it.
-pub struct Taken {
-    pub whole: bool,
-    pub count: usize,
-}
-
-fn nothing() -> Taken
-    ensures { λ r. ⌜ r .count ≤ 0 ⌝ }
-{
-    Taken {
-        whole: false,
-        count: 0,
-    }
-}
-
-// The next op; 0 at the end of the input.
+// The next op; the end also where the input ends, or where the protocol has no such op.
 pub fn op() -> u8 {
-    let mut byte = [0u8; 1];
-    if io::read_full(STDIN_FILENO, &mut byte) == 1 {
-        byte[0]
-    } else {
-        0
-    }
+    let mut byte = [END; 1];
+    io::read_full(STDIN_FILENO, &mut byte);
+    let op = byte[0];
+    if op <= 6 { op } else { END }
 }
 
 // Any number of 32 bits.
-pub fn number() -> Taken {
-    count(4294967295)
-}
-
-// A count that the limit allows.
-fn count(most: usize) -> Taken
-    ensures { λ r. ⌜ r .count ≤ most ⌝ }
-{
+pub fn number() -> usize {
     let mut bytes = [0u8; 4];
-    let got = io::read_full(STDIN_FILENO, &mut bytes);
-    let count = word_of(bytes[0], bytes[1], bytes[2], bytes[3]) as usize;
-    if got == 4 && count <= most {
-        Taken { whole: true, count }
+    if io::read_full(STDIN_FILENO, &mut bytes) == 4 {
+        word_of(bytes[0], bytes[1], bytes[2], bytes[3]) as usize
     } else {
-        nothing()
+        NONE
     }
 }
 
-// Exactly so many bytes, put at the start of the buffer.
-fn exactly(buffer: &mut [u8], count: usize) -> Taken
-    ensures { λ r. ⌜ r .count ≤ length (now (buffer .exit)) ⌝ }
-{
+// Exactly so many bytes.
+fn exactly(buffer: &mut [u8], count: usize) -> usize {
     if buffer.len() < count {
-        return nothing();
+        return NONE;
     }
     if io::read_full(STDIN_FILENO, &mut buffer[0..count]) < count {
-        return nothing();
+        return NONE;
     }
-    Taken { whole: true, count }
+    count
 }
 
 // A count and its bytes.
-pub fn bytes_into(buffer: &mut [u8], most: usize) -> Taken
-    ensures { λ r. ⌜ r .count ≤ length (now (buffer .exit)) ⌝ }
-{
-    let taken = count(most);
-    if !taken.whole {
-        return nothing();
-    }
-    exactly(buffer, taken.count)
+pub fn bytes_into(buffer: &mut [u8]) -> usize {
+    let count = number();
+    exactly(buffer, count)
 }
 
 // A count of headers and their bytes.
-pub fn headers_into(buffer: &mut [u8]) -> Taken
-    ensures { λ r. ⌜ r .count ≤ length (now (buffer .exit)) ⌝ }
-{
-    let taken = count(MOST_HEADERS);
-    if !taken.whole {
-        return nothing();
+pub fn headers_into(buffer: &mut [u8]) -> usize {
+    let count = number();
+    if buffer.len() / HEADER_BYTES < count {
+        return NONE;
     }
-    exactly(buffer, taken.count * rules::HEADER_BYTES)
+    exactly(buffer, count * HEADER_BYTES)
 }
 
 // A count and its words of an area.
-pub fn words_into(words: &mut [u32], wire: &mut [u8]) -> Taken
-    ensures { λ r. ⌜ r .count ≤ length (now (words .exit)) ⌝ }
-{
-    let taken = count(MOST_AREA_WORDS);
-    if !taken.whole {
-        return nothing();
+pub fn words_into(words: &mut [u32], wire: &mut [u8]) -> usize {
+    let count = number();
+    if words.len() < count || wire.len() / 4 < count {
+        return NONE;
     }
-    let end = taken.count;
-    if words.len() < end {
-        return nothing();
+    if exactly(wire, count * 4) == NONE {
+        return NONE;
     }
-    let coded = exactly(wire, end * 4);
-    if !coded.whole {
-        return nothing();
-    }
-    decode_words(wire, &mut words[0..end]);
-    taken
+    decode_words(wire, &mut words[0..count]);
+    count
 }
 
 // A count and its entries of a list or an order.
-pub fn entries_into(entries: &mut [u16], most: usize, wire: &mut [u8]) -> Taken
-    ensures { λ r. ⌜ r .count ≤ length (now (entries .exit)) ⌝ }
-{
-    let taken = count(most);
-    if !taken.whole {
-        return nothing();
+pub fn entries_into(entries: &mut [u16], wire: &mut [u8]) -> usize {
+    let count = number();
+    if entries.len() < count || wire.len() / 2 < count {
+        return NONE;
     }
-    let end = taken.count;
-    if entries.len() < end {
-        return nothing();
+    if exactly(wire, count * 2) == NONE {
+        return NONE;
     }
-    let coded = exactly(wire, end * 2);
-    if !coded.whole {
-        return nothing();
-    }
-    decode_entries(wire, &mut entries[0..end]);
-    taken
+    decode_entries(wire, &mut entries[0..count]);
+    count
 }
 
 fn decode_words(wire: &[u8], words: &mut [u32]) {
