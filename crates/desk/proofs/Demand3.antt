@@ -25,7 +25,7 @@ use Rattle.lookup.specs.Said.{actionValues, matchSaid, noMatchSaid}
 use Rattle.lookup.specs.Answer.{winnerSaid, rulesAnswer, answerSaid}
 use Rattle.lookup.specs.InCode.{lookedSaid}
 use Rattle.overlap.specs.Pairs.{Pair}
-use Rattle.overlap.specs.Order.{isOrder, moved, movedTable}
+use Rattle.overlap.specs.Order.{isOrder, movedTable}
 use Rattle.overlap.specs.Judge as judge
 use Rattle.overlap.proofs.MoveLaws.{move-same-answer}
 use Rattle.overlap.proofs.TableMoves.{moved-length, moved-rules, accepted-whole}

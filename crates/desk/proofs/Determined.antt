@@ -16,6 +16,11 @@ use Rattle.desk.specs.PairsCall.{pairedSaid, Pairs}
 use Rattle.desk.specs.JudgeCall.{judgedSaid, Judges}
 use Rattle.desk.specs.Show.{Shows}
 
+-- an answer that can be read back, and what is left: both fixed by what is said and what must be left
+lent-one : {A : Type 0} (say : A → List ℕ) (from : List ℕ → A) → ((a : A) → from (say a) ≡ a) → {a b : A} {says after other left : List ℕ}
+    → say a ≡ says → say b ≡ says → after ≡ left → other ≡ left → (a ≡ b) × (after ≡ other)
+lent-one say from back {a} {b} p q l m = (one-answer say from back a b (p ∙ sym q), l ∙ sym m)
+
 -- ---- build
 
 abbrev sized : List ℕ → built.Built
@@ -28,10 +33,7 @@ built-back (built.the-variants.Refused r) = answer-refused sized built.the-varia
 
 pub build-one : {table area : List ℕ} {a b : built.Built} {after other : List ℕ}
     → Builds table area a after → Builds table area b other → (a ≡ b) × (after ≡ other)
-build-one {a = a} {b = b} p q = (
-  one-answer builtSaid (answerFrom sized built.the-variants.Refused) built-back a b (p .answer ∙ sym (q .answer)),
-  p .lent ∙ sym (q .lent),
-)
+build-one p q = lent-one builtSaid (answerFrom sized built.the-variants.Refused) built-back (p .answer) (q .answer) (p .lent) (q .lent)
 
 -- ---- lookup
 
@@ -50,10 +52,7 @@ paired-back (paired.the-variants.Refused r) = answer-refused counted paired.the-
 
 pub pairs-one : {table list : List ℕ} {a b : paired.Paired} {after other : List ℕ}
     → Pairs table list a after → Pairs table list b other → (a ≡ b) × (after ≡ other)
-pairs-one {a = a} {b = b} p q = (
-  one-answer pairedSaid (answerFrom counted paired.the-variants.Refused) paired-back a b (p .answer ∙ sym (q .answer)),
-  p .lent ∙ sym (q .lent),
-)
+pairs-one p q = lent-one pairedSaid (answerFrom counted paired.the-variants.Refused) paired-back (p .answer) (q .answer) (p .lent) (q .lent)
 
 -- ---- judge
 
@@ -64,10 +63,8 @@ judged-back (judged.the-variants.Refused r) = answer-refused (λ vs. judged.the-
 
 pub judge-one : {table order output : List ℕ} {a b : judged.Judged} {after other : List ℕ}
     → Judges table order output a after → Judges table order output b other → (a ≡ b) × (after ≡ other)
-judge-one {a = a} {b = b} p q = (
-  one-answer judgedSaid (answerFrom (λ vs. judged.the-variants.Allowed) judged.the-variants.Refused) judged-back a b (p .answer ∙ sym (q .answer)),
-  p .lent ∙ sym (q .lent),
-)
+judge-one p q =
+    lent-one judgedSaid (answerFrom (λ vs. judged.the-variants.Allowed) judged.the-variants.Refused) judged-back (p .answer) (q .answer) (p .lent) (q .lent)
 
 -- ---- show
 

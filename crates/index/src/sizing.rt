@@ -2,7 +2,7 @@
 // less the longest leading part that it has in common with an earlier rule's.
 ghost use mathlib.Core.Path.{_≡_};
 ghost use Prim.Native.Nat.{_+_, _*_, _≤_, _<_};
-ghost use lib.ListN.{length, take};
+ghost use lib.ListN.{take};
 ghost use Rattle.bits.specs.Path.{common};
 ghost use Rattle.rules.specs.Match.{ruleAt};
 ghost use Rattle.rules.specs.Table.{recordAt, rulesOf, ruleCount, SoundRule};

@@ -11,7 +11,7 @@ use Rattle.bits.specs.Tests.{all, upFrom}
 use Rattle.bits.proofs.ListLaws.{all-map}
 use Rattle.bits.proofs.EachLaws.{getD-map, all-agree, map-agree}
 use Rattle.rules.specs.Field.{fields, fieldAt, valueIn}
-use Rattle.rules.specs.Rule.{has, ruleOf}
+use Rattle.rules.specs.Rule.{ruleOf}
 use Rattle.rules.specs.Table.{ruleCount, recordAt, rulesOf, Accepted}
 use Rattle.rules.specs.Header.{headerSize, headerValues}
 use Rattle.rules.specs.Match.{matches, noRule, ruleAt, matchesIn}

@@ -47,6 +47,17 @@ held-some room whole each =
     ))
     (less (length room) whole)
 
+-- so what `report` ensures, of every file and every input of which so much was read, fixes its result
+module _ (head : List ℕ) (file : ℕ) (first : List ℕ) (input : ℕ) (area out : List ℕ) where
+  abbrev Ensured : ℕ → List ℕ → List ℕ → Type 0
+  Ensured n after left = (table bytes : List ℕ) → Holds table head file → Holds bytes first input → Reports table bytes area out n after left
+
+  pub report-fixed : Bytes head → Bytes first → {n m : ℕ} {a b k l : List ℕ} → Ensured n a k → Ensured m b l → (n ≡ m) × (a ≡ b) × (k ≡ l)
+  report-fixed h f r s =
+      let table = held-some head file h in
+      let bytes = held-some first input f in
+      report-one (r (table .0) (bytes .0) (table .1) (bytes .1)) (s (table .0) (bytes .0) (table .1) (bytes .1))
+
 -- what cannot be read counts as one byte: 1
 pub unreadable-text : (b : ℕ) (input : List ℕ) → programText (b ∷ []) input ≡ codes "refused 1\n"
 unfolding programText textAfter buildSaid verdict firstRefusal line refusedText placeText decimal decimalWithin

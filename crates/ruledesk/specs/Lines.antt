@@ -2,7 +2,7 @@
 -- Assumes nothing.
 use mathlib.Core.Bool.{cond}
 use mathlib.Core.List.{List, [], _∷_, _++_}
-use Prim.Native.Nat.{ℕ}
+use Prim.Native.Nat.{ℕ, zero, suc}
 use lib.Dec.{eqb}
 use lib.ListN.{getD, drop}
 use Rattle.ruledesk.specs.Text.{codes, decimal}
@@ -17,9 +17,11 @@ placeText (value ∷ other ∷ more) = []
 unfoldable pub refusedText : List ℕ → List ℕ
 refusedText says = codes "refused " ++ (decimal (getD says 0 0) ++ placeText (drop 1 says))
 
--- of a match: kind 0 is hold, kind 1 is deliver to a feed
+-- of a match: kind 0 is hold, kind 1 is deliver to a feed; nothing is said of another kind, and no answer has one
 unfoldable pub actionText : ℕ → ℕ → List ℕ
-actionText kind feed = cond (eqb kind 0) (codes " hold") (codes " deliver " ++ decimal feed)
+actionText zero feed = codes " hold"
+actionText (suc zero) feed = codes " deliver " ++ decimal feed
+actionText (suc (suc more)) feed = []
 
 -- "`match P hold`, `match P deliver F` or `none`", of 1, place, kind and feed, or of 0
 unfoldable pub outcomeText : List ℕ → List ℕ

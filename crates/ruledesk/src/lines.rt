@@ -66,34 +66,33 @@ fn put_outcome(out: &mut [u8], at: usize, outcome: Outcome) -> usize
     }
 }
 
-// The line of a refusal.
-pub fn put_refusal_line(out: &mut [u8], at: usize, refusal: Refusal) -> usize
-    requires { ⌜ at + 64 ≤ length (now out) ⌝ }
-    ensures { λ r. ⌜ Puts 64 (now (out .entry)) at (line (refusedText (said refusal))) (now (out .exit)) r ⌝ }
-{
-    let end = put_refusal(out, at, refusal);
-    put_text(out, end, b"\n")
-}
-
-// The line of an outcome.
-fn put_outcome_line(out: &mut [u8], at: usize, outcome: Outcome) -> usize
-    requires { ⌜ at + 64 ≤ length (now out) ⌝ }
-    ensures { λ r. ⌜ Puts 64 (now (out .entry)) at (line (outcomeText (outcomeSaid outcome))) (now (out .exit)) r ⌝ }
-{
-    let end = put_outcome(out, at, outcome);
-    put_text(out, end, b"\n")
-}
-
-// The line of what lookup answered.
-pub fn put_answer_line(out: &mut [u8], at: usize, looked: Looked) -> usize
-    requires { ⌜ at + 64 ≤ length (now out) ⌝ }
-    ensures { λ r. ⌜ Puts 64 (now (out .entry)) at (line (answerText (lookedSaid looked))) (now (out .exit)) r ⌝ }
+// What lookup answered: the outcome, or the refusal.
+fn put_answer(out: &mut [u8], at: usize, looked: Looked) -> usize
+    requires { ⌜ at + 55 ≤ length (now out) ⌝ }
+    ensures { λ r. ⌜ Puts 55 (now (out .entry)) at (answerText (lookedSaid looked)) (now (out .exit)) r ⌝ }
 {
     match looked {
         Looked::Found(answer) => {
             let outcome = answer.outcome;
-            put_outcome_line(out, at, outcome)
+            put_outcome(out, at, outcome)
         }
-        Looked::Refused(refusal) => put_refusal_line(out, at, refusal),
+        Looked::Refused(refusal) => put_refusal(out, at, refusal),
     }
+}
+
+// The same as a line.
+pub fn put_answer_line(out: &mut [u8], at: usize, looked: Looked) -> usize
+    requires { ⌜ at + 64 ≤ length (now out) ⌝ }
+    ensures { λ r. ⌜ Puts 64 (now (out .entry)) at (line (answerText (lookedSaid looked))) (now (out .exit)) r ⌝ }
+{
+    let end = put_answer(out, at, looked);
+    put_text(out, end, b"\n")
+}
+
+// The line of a refusal, whichever call gave it.
+pub fn put_refusal_line(out: &mut [u8], at: usize, refusal: Refusal) -> usize
+    requires { ⌜ at + 64 ≤ length (now out) ⌝ }
+    ensures { λ r. ⌜ Puts 64 (now (out .entry)) at (line (refusedText (said refusal))) (now (out .exit)) r ⌝ }
+{
+    put_answer_line(out, at, Looked::Refused(refusal))
 }

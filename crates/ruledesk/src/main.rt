@@ -6,8 +6,6 @@ mod read;
 mod report;
 mod text;
 
-ghost use mathlib.Core.Path.{_≡_};
-ghost use lib.ListN.{length};
 use libc::STDIN_FILENO;
 use libc::STDOUT_FILENO;
 use report::AREA_WORDS;

@@ -10,7 +10,7 @@ use lib.ListN.{length, getD}
 use borrow.Author.Tests.{ltb-false}
 use Rattle.bits.specs.Number.{Bytes, numberAt}
 use Rattle.bits.specs.Path.{bits, prefix, leads, stray}
-use Rattle.bits.specs.Tests.{any, all, each}
+use Rattle.bits.specs.Tests.{any, all}
 use Rattle.bits.proofs.NumberLaws.{number-small}
 use Rattle.bits.proofs.EachLaws.{getD-map, each-maps, all-same}
 use Rattle.rules.specs.Field.{Field, fields, fieldAt, valueIn, lengthIn}

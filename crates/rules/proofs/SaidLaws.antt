@@ -4,7 +4,7 @@ use mathlib.Core.Path.{_≡_, refl, sym, ap, _∙_}
 use mathlib.Core.List.{List, [], _∷_}
 use Prim.Native.Nat.{ℕ, zero, suc}
 use lib.ListN.{getD, drop}
-use Rattle.bits.specs.Number.{number, numberAt, bytesOf}
+use Rattle.bits.specs.Number.{numberAt, bytesOf}
 use Rattle.bits.proofs.NumberLaws.{number-bytes}
 use Rattle.rules.specs.declared.Header.{Header}
 use Rattle.rules.specs.declared.Refusal.{Refusal}
@@ -12,7 +12,7 @@ use Rattle.rules.specs.declared.Refusal.the-variants.{RaggedTable, TooMa
 use Rattle.rules.specs.declared.Checked.{Checked}
 use Rattle.rules.specs.declared.Checked.the-variants.{Accepted, Refused}
 use Rattle.rules.specs.declared.Heard as heard
-use Rattle.rules.specs.Refusal.{values, headerBytes, said, checkedSaid, heardSaid, firstRefusal}
+use Rattle.rules.specs.Refusal.{headerBytes, said, checkedSaid, heardSaid, firstRefusal}
 
 -- ---- a header from its bytes, and from its values
 

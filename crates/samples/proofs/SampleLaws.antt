@@ -4,7 +4,7 @@ use mathlib.Core.Path.{_≡_, sym, ap, _∙_}
 use mathlib.Core.List.{List, _++_}
 use Prim.Native.Nat.{ℕ, _+_, _*_, _≤_, _<_}
 use native.Mathlib.Omega.{arith}
-use lib.ListN.{length, take, drop, length-append, length-drop}
+use lib.ListN.{length, drop, length-append, length-drop}
 use lib.Seq.{paste, take-at, drop-append-add, drop-drop, take-all}
 use borrow.Author.Tests.{lt-ltb, le-ltb}
 use Rattle.rules.specs.Table.{recordSize, ruleCount}
