@@ -103,28 +103,18 @@ fn same_known(a: Action, b: Action) -> bool
     }
 }
 
-// Known actions are compared; an unknown one is like no known one.
-fn same_decoded(a: Decoded, b: Decoded) -> bool
-    ensures { λ r. ⌜ r ≡ sameAction a b ⌝ }
-{
-    match a {
-        Decoded::Known(first) => match b {
-            Decoded::Known(second) => same_known(first, second),
-            Decoded::Unknown => false,
-        },
-        Decoded::Unknown => match b {
-            Decoded::Known(_) => false,
-            Decoded::Unknown => true,
-        },
-    }
-}
-
-// Whether the two rules have one action.
+// Whether the two rules have one action: a sound rule's is known.
 pub fn same_action(a: &[u8], b: &[u8]) -> bool
-    requires { ⌜ (length (now a) ≡ recordSize) × (length (now b) ≡ recordSize) ⌝ }
+    requires { ⌜ SoundRule (now a) × SoundRule (now b) ⌝ }
     ensures { λ r. ⌜ r ≡ sameAction (actionIn (now (a .entry))) (actionIn (now (b .entry))) ⌝ }
 {
-    same_decoded(rules::decode(a[18], a[19]), rules::decode(b[18], b[19]))
+    let Decoded::Known(first) = rules::decode(a[18], a[19]) else {
+        return false;
+    };
+    let Decoded::Known(second) = rules::decode(b[18], b[19]) else {
+        return false;
+    };
+    same_known(first, second)
 }
 
 // The larger value of field f: of two prefixes that share a header, the longer one's.

@@ -1,13 +1,14 @@
--- The test of two actions is their equality.
+-- The test of two actions is their equality, and an action is known or unknown.
 -- Assumes nothing.
 use mathlib.Core.Path.{_≡_, refl, ap}
-use mathlib.Core.Bool.{true, false≢true}
+use mathlib.Core.Bool.{true, false, false≢true, true≢false}
 use Prim.Native.Nat.{ℕ}
 use borrow.Author.Tests.{eqb-true, eq-eqb}
+use Rattle.rules.specs.declared.Action.{Action}
 use Rattle.rules.specs.declared.Action.the-variants.{Hold, Deliver}
 use Rattle.rules.specs.declared.Decoded.{Decoded}
 use Rattle.rules.specs.declared.Decoded.the-variants.{Known, Unknown}
-use Rattle.rules.specs.Action.{sameAction}
+use Rattle.rules.specs.Action.{isUnknown, sameAction}
 
 pub same-action : (a b : Decoded) → sameAction a b ≡ true → a ≡ b
 unfolding sameAction
@@ -27,3 +28,8 @@ action-same a b e = rw (← e) (self a)
     self (Known Hold) = unfold sameAction in refl
     self (Known (Deliver f)) = unfold sameAction in eq-eqb f f refl
     self Unknown = unfold sameAction in refl
+
+pub known : (d : Decoded) → isUnknown d ≡ false → (a : Action) × (d ≡ Known a)
+unfolding isUnknown
+known (Known a) e = (a, refl)
+known Unknown e = absurd (true≢false e)

@@ -1,8 +1,8 @@
 -- Laws of the verdict: what is said of one rule from its tests, one rule more, and what an accepted table is.
 -- Assumes nothing.
-use mathlib.Core.Path.{_≡_, refl, ap}
+use mathlib.Core.Path.{_≡_, refl, sym, ap, _∙_}
 use mathlib.Core.Logic.{_⊎_, inl, inr}
-use mathlib.Core.Bool.{Bool, true, false, not, cond, _&&_}
+use mathlib.Core.Bool.{Bool, true, false, not, cond, _&&_, true≢false}
 use mathlib.Core.List.{List, [], _∷_}
 use mathlib.Core.Option.{Option, none, some}
 use Prim.Native.Nat.{ℕ, zero, suc, _+_, _*_, _%_, _≤_, _<_}
@@ -20,6 +20,7 @@ use Rattle.rules.specs.declared.Decoded.the-variants.{Known, Unknown}
 use Rattle.rules.specs.Action.{actionIn, isUnknown}
 use Rattle.rules.specs.Refusal.{firstRefusal}
 use Rattle.rules.specs.Table.{recordSize, mostRules, ruleCount, recordAt, longPrefix, strayBit, unknownAction, spareBytes, Test, ruleTests, firstFailed, fault, ruleSaid, faulty, placeSaid, rulesSaid, verdict, Accepted}
+use Rattle.rules.proofs.ActionLaws.{known}
 
 -- ---- one rule, by its tests in their order
 
@@ -81,6 +82,15 @@ faultless bytes e =
       known = not-true _ (d .0);
       spare = not-true _ (f .0);
     }
+
+-- so its action is known
+pub sound-known : (bytes : List ℕ) → fault bytes ≡ 0 → (a : Action) × (actionIn bytes ≡ Known a)
+unfolding unknownAction
+sound-known bytes e = known (actionIn bytes) (faultless bytes e .known)
+
+pub never-unknown : (bytes : List ℕ) → fault bytes ≡ 0 → actionIn bytes ≡ Unknown → ⊥
+unfolding unknownAction isUnknown
+never-unknown bytes e u = true≢false (sym (ap isUnknown u) ∙ faultless bytes e .known)
 
 -- the four spare bytes as one number
 pub spare-number : (bytes : List ℕ) → not (eqb (numberAt bytes 20 4) 0) ≡ spareBytes bytes
