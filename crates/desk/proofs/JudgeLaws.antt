@@ -3,17 +3,16 @@
 -- Assumes nothing.
 use mathlib.Core.Path.{_≡_, refl, sym, ap, _∙_}
 use mathlib.Core.Bool.{true, false}
-use mathlib.Core.List.{List, [], _∷_, _++_, zipWith, flatten}
+use mathlib.Core.List.{List, [], _∷_, _++_}
 use mathlib.Core.Option.{Option, none, some}
 use Prim.Native.Nat.{ℕ, _≤_, _<_}
 use lib.ListN.{length, drop}
 use borrow.Author.Tests.{lt-ltb, le-ltb}
-use Rattle.bits.specs.Number.{bytesOf}
-use Rattle.rules.specs.declared.Header.{Header}
 use Rattle.rules.specs.declared.Crossing.{Crossing}
 use Rattle.rules.specs.declared.Refusal.{Refusal}
 use Rattle.rules.specs.declared.Refusal.the-variants.{NotAnOrder, ShortOutput, NotAllowed}
-use Rattle.rules.specs.Refusal.{values, headerBytes, said, firstRefusal}
+use Rattle.rules.specs.Header.{headerBytes}
+use Rattle.rules.specs.Refusal.{said, firstRefusal}
 use Rattle.rules.specs.Rule.{Rule}
 use Rattle.rules.specs.Table.{ruleCount, rulesOf, verdict, Accepted}
 use Rattle.rules.proofs.SaidLaws.{refused-first}
@@ -22,21 +21,16 @@ use Rattle.overlap.specs.Order.{isOrder, movedTable}
 use Rattle.overlap.specs.Judge.{crossing}
 use Rattle.overlap.specs.Obstacle.{pairTold, foundTold, crossingTold}
 use Rattle.desk.specs.declared.Judged.the-variants.{Allowed, Refused}
-use Rattle.desk.specs.JudgeCall.{judgedSaid, valueBytes, orderSaid, outputSaid, crossingSaid, judgeSaid, judgeLeft, Judges}
+use Rattle.desk.specs.JudgeCall.{judgedSaid, orderSaid, outputSaid, crossingSaid, judgeSaid, judgeLeft, Judges}
 use Rattle.desk.proofs.LentLaws.{lent-refused, done-written}
 
 -- ---- what refusal 13 says
-
--- the bytes of a header are those of its values
-header-bytes : (h : Header) → valueBytes (values h) ≡ headerBytes h
-unfolding valueBytes headerBytes bytesOf zipWith flatten
-header-bytes h = refl
 
 -- what is said, from what is told
 saidOf : List ℕ → List ℕ
 saidOf [] = 0 ∷ []
 saidOf (i ∷ []) = 0 ∷ []
-saidOf (i ∷ j ∷ vs) = 13 ∷ i ∷ j ∷ valueBytes vs
+saidOf (i ∷ j ∷ vs) = 13 ∷ i ∷ j ∷ headerBytes vs
 
 told-said : (rules : List Rule) (o : Option Pair) → crossingSaid rules o ≡ saidOf (foundTold rules o)
 unfolding crossingSaid saidOf foundTold pairTold
@@ -45,7 +39,7 @@ told-said rules (some p) = refl
 
 crossing-said : (c : Crossing) → saidOf (crossingTold c) ≡ said (NotAllowed c)
 unfolding saidOf crossingTold said
-crossing-said c = ap (λ (bs : List ℕ). 13 ∷ c .lower ∷ c .higher ∷ bs) (header-bytes (c .header))
+crossing-said c = refl
 
 -- ---- the ways
 

@@ -8,7 +8,7 @@ use Rattle.rules.specs.declared.Refusal.{Refusal}
 use Rattle.rules.specs.declared.Refusal.the-variants.{ShortList}
 use Rattle.rules.specs.Refusal.{said}
 use Rattle.rules.specs.Table.{rulesOf, verdict, Accepted}
-use Rattle.overlap.specs.Pairs.{pairsOf, flat}
+use Rattle.overlap.specs.Pairs.{pairsOf, entries}
 use Rattle.desk.specs.declared.Paired.the-variants.{Listed, Refused}
 use Rattle.desk.specs.PairsCall.{pairedSaid, pairCount, pairsSaid, pairsLeft, Pairs}
 use Rattle.desk.proofs.LentLaws.{room-refused, room-short, room-done}
@@ -16,7 +16,7 @@ use Rattle.desk.proofs.LentLaws.{room-refused, room-short, room-done}
 module _ (table list : List ℕ) where
   -- what the call writes where it is done
   abbrev written : List ℕ
-  written = flat (pairsOf (rulesOf table)) ++ drop (2 * pairCount table) list
+  written = entries (pairsOf (rulesOf table)) ++ drop (2 * pairCount table) list
 
   plain : said ShortList ≡ 10 ∷ []
   unfolding said

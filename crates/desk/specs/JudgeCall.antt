@@ -2,16 +2,15 @@
 -- Assumes nothing.
 use mathlib.Core.Path.{_≡_}
 use mathlib.Core.Bool.{cond}
-use mathlib.Core.List.{List, [], _∷_, _++_, zipWith, flatten}
+use mathlib.Core.List.{List, [], _∷_, _++_}
 use mathlib.Core.Option.{Option, none, some}
-use Prim.Native.Nat.{ℕ, _/_}
+use Prim.Native.Nat.{ℕ}
 use lib.Dec.{ltb}
 use lib.ListN.{length, drop}
-use Rattle.bits.specs.Number.{bytesOf}
-use Rattle.rules.specs.Field.{Field, fields}
 use Rattle.rules.specs.Rule.{Rule}
 use Rattle.rules.specs.Match.{ruleAt}
-use Rattle.rules.specs.Overlap.{shown}
+use Rattle.rules.specs.Overlap.{lowestShared}
+use Rattle.rules.specs.Header.{headerBytes}
 use Rattle.rules.specs.Refusal.{said, firstRefusal}
 use Rattle.rules.specs.Table.{ruleCount, rulesOf, verdict}
 use Rattle.overlap.specs.Pairs.{Pair}
@@ -26,10 +25,6 @@ unfoldable pub judgedSaid : Judged → List ℕ
 judgedSaid Allowed = 0 ∷ []
 judgedSaid (Refused r) = said r
 
--- a header's bytes from its values: each at its field's width, "in the same order and widths"
-unfoldable pub valueBytes : List ℕ → List ℕ
-valueBytes values = flatten (zipWith (λ (f : Field) v. bytesOf (f .width / 8) v) fields values)
-
 -- 11: "order's length is not the rule count, or an entry is repeated or too large"
 unfoldable pub orderSaid : List ℕ → List ℕ → List ℕ
 orderSaid table order = cond (isOrder (ruleCount table) order) (0 ∷ []) (11 ∷ [])
@@ -41,7 +36,7 @@ outputSaid table output = cond (ltb (length output) (length table)) (12 ∷ []) 
 -- 13: "the answer names the first pair by old places .. and their lowest shared header"
 unfoldable pub crossingSaid : List Rule → Option Pair → List ℕ
 crossingSaid rules none = 0 ∷ []
-crossingSaid rules (some p) = 13 ∷ p .lower ∷ p .higher ∷ valueBytes (shown (ruleAt rules (p .lower)) (ruleAt rules (p .higher)))
+crossingSaid rules (some p) = 13 ∷ p .lower ∷ p .higher ∷ headerBytes (lowestShared (ruleAt rules (p .lower)) (ruleAt rules (p .higher)))
 
 -- "Moves: 1, 2, rules, 11, 12, 13."
 unfoldable pub judgeSaid : List ℕ → List ℕ → List ℕ → List ℕ

@@ -6,7 +6,7 @@ use Prim.Native.Nat.{ℕ, _*_}
 use lib.ListN.{length, drop}
 use Rattle.rules.specs.Refusal.{said, firstRefusal}
 use Rattle.rules.specs.Table.{rulesOf, verdict}
-use Rattle.overlap.specs.Pairs.{pairsOf, flat}
+use Rattle.overlap.specs.Pairs.{pairsOf, entries}
 use Rattle.desk.specs.declared.Paired.{Paired}
 use Rattle.desk.specs.declared.Paired.the-variants.{Listed, Refused}
 use Rattle.desk.specs.Lent.{roomSaid, lentAfter}
@@ -25,7 +25,7 @@ pairsSaid table list = firstRefusal (verdict table) (roomSaid 10 (2 * pairCount 
 
 -- the list afterwards: "16-bit numbers, two per pair", and "later entries of the lent list keep their values"
 unfoldable pub pairsLeft : List ℕ → List ℕ → List ℕ
-pairsLeft table list = lentAfter (pairsSaid table list) (flat (pairsOf (rulesOf table)) ++ drop (2 * pairCount table) list) list
+pairsLeft table list = lentAfter (pairsSaid table list) (entries (pairsOf (rulesOf table)) ++ drop (2 * pairCount table) list) list
 
 -- what `pairs` answers and leaves, for any table and any list
 pub record Pairs (table list : List ℕ) (r : Paired) (after : List ℕ) : Type 0 where

@@ -10,7 +10,7 @@ use Rattle.index.specs.Image.{image}
 use Rattle.index.specs.Need.{need}
 use Rattle.lookup.specs.Answer.{answerSaid}
 use Rattle.lookup.specs.Look.{lookSaid}
-use Rattle.overlap.specs.Pairs.{pairsOf, flat}
+use Rattle.overlap.specs.Pairs.{pairsOf, entries}
 use Rattle.desk.specs.JudgeCall.{judgeSaid}
 
 -- ---- the six rules of 001, Fig. 1: source and destination address carry the two fields, all deliver
@@ -87,7 +87,7 @@ examples =
     ∷ example 6 (answerSaid sixRules (headerOf 224 240)) (0 ∷ 0 ∷ 1 ∷ 2 ∷ 1 ∷ 10 ∷ [])
     ∷ example 7 (lookedIn sixRules (headerOf 64 192)) (0 ∷ 1 ∷ 0 ∷ [])
     ∷ example 7 (answerSaid sixRules (headerOf 64 192)) (0 ∷ 1 ∷ 0 ∷ [])
-    ∷ example 8 (flat (pairsOf (rulesOf sixRules))) (0 ∷ 1 ∷ [])
+    ∷ example 8 (entries (pairsOf (rulesOf sixRules))) (0 ∷ 1 ∷ [])
     ∷ example 9 (judgeSaid sixRules (0 ∷ 1 ∷ 2 ∷ 3 ∷ 5 ∷ 4 ∷ []) sixRules) (0 ∷ [])
     ∷ example 10 (judgeSaid sixRules (1 ∷ 0 ∷ 2 ∷ 3 ∷ 4 ∷ 5 ∷ []) sixRules) (13 ∷ 0 ∷ 1 ∷ 0 ∷ 0 ∷ 0 ∷ 0 ∷ 128 ∷ 0 ∷ 0 ∷ 0 ∷ 0 ∷ 0 ∷ 0 ∷ 0 ∷ 0 ∷ [])
     ∷ example 11 (verdict portOfIcmp) (0 ∷ [])

@@ -14,7 +14,7 @@ use Rattle.rules.specs.Match.{ruleAt}
 use Rattle.rules.specs.Table.{ruleCount, rulesOf, Accepted}
 use Rattle.rules.proofs.TableLaws.{accepted-sound}
 use Rattle.rules.proofs.MatchLaws.{rules-size}
-use Rattle.overlap.specs.Pairs.{Pair, row, triangle, keep, listed, onPair, pairsOf, flat}
+use Rattle.overlap.specs.Pairs.{Pair, row, triangle, keep, listed, onPair, pairsOf, entries}
 use Rattle.overlap.specs.Steps.{listedRow, listedWith, listedFrom}
 use Rattle.overlap.proofs.TriangleLaws.{pair, keep-here, keep-later}
 
@@ -121,12 +121,12 @@ pairs-few table ok =
 
 -- ---- what is written
 
-pub flat-append : (ps qs : List Pair) → flat (ps ++ qs) ≡ flat ps ++ flat qs
-unfolding flat
-flat-append [] qs = refl
-flat-append (p ∷ ps) qs = ap (λ (l : List ℕ). p .lower ∷ p .higher ∷ l) (flat-append ps qs)
+pub entries-append : (ps qs : List Pair) → entries (ps ++ qs) ≡ entries ps ++ entries qs
+unfolding entries
+entries-append [] qs = refl
+entries-append (p ∷ ps) qs = ap (λ (l : List ℕ). p .lower ∷ p .higher ∷ l) (entries-append ps qs)
 
-pub flat-size : (ps : List Pair) → length (flat ps) ≡ 2 * length ps
-unfolding flat
-flat-size [] = refl
-flat-size (p ∷ ps) = omega (arith, flat-size ps)
+pub entries-size : (ps : List Pair) → length (entries ps) ≡ 2 * length ps
+unfolding entries
+entries-size [] = refl
+entries-size (p ∷ ps) = omega (arith, entries-size ps)

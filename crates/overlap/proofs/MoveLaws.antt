@@ -1,5 +1,5 @@
--- An allowed move changes no header's action. Of a refused one, the named rules alone answer their shown header differently in their two
--- orders. The order left in place is allowed, an allowed move can be undone by one, and two in a row are one.
+-- An allowed move changes no header's action. Of a refused one, the named rules alone answer their lowest shared header differently in
+-- their two orders. The order left in place is allowed, an allowed move can be undone by one, and two in a row are one.
 -- Assumes nothing.
 use mathlib.Core.Path.{_≡_, refl, sym, ap, _∙_}
 use mathlib.Core.Logic.{⊎-elim}
@@ -15,8 +15,8 @@ use Rattle.bits.specs.Tests.{each}
 use Rattle.bits.proofs.TestLaws.{clash, less, Told, three}
 use Rattle.rules.specs.Rule.{Rule}
 use Rattle.rules.specs.Match.{matches, noRule, ruleAt, firstMatch}
-use Rattle.rules.specs.Overlap.{shown}
-use Rattle.rules.proofs.OverlapLaws.{share-exact, shown-fits, shown-lowest}
+use Rattle.rules.specs.Overlap.{lowestShared}
+use Rattle.rules.proofs.OverlapLaws.{share-exact, lowest-shared-fits, lowest-shared-lowest}
 use Rattle.overlap.specs.Pairs.{Pair}
 use Rattle.overlap.specs.Order.{isOrder, oldPlace, newPlace, moved, inPlace, wayBack, andThen}
 use Rattle.overlap.specs.Judge.{clashes, crossing, Allowed, answerOf}
@@ -95,11 +95,11 @@ move-same-answer rules o e a h = kept-answer rules o (order (length rules) o e) 
 
 -- ---- of a refused move
 
--- on their shown header, which matches both and is the lowest such in each field, two rules alone answer differently in their two orders
+-- on their lowest shared header, which matches both and is the lowest such in each field, two rules alone answer differently in their two orders
 pub record Differ (a b : Rule) : Type 0 where
-  pub fits : (matches (shown a b) a ≡ true) × (matches (shown a b) b ≡ true)
-  pub lowest : (h : List ℕ) → matches h a ≡ true → matches h b ≡ true → each leb (shown a b) h ≡ true
-  pub answers : answerOf (a ∷ b ∷ []) (shown a b) ≡ answerOf (b ∷ a ∷ []) (shown a b) → ⊥
+  pub fits : (matches (lowestShared a b) a ≡ true) × (matches (lowestShared a b) b ≡ true)
+  pub lowest : (h : List ℕ) → matches h a ≡ true → matches h b ≡ true → each leb (lowestShared a b) h ≡ true
+  pub answers : answerOf (a ∷ b ∷ []) (lowestShared a b) ≡ answerOf (b ∷ a ∷ []) (lowestShared a b) → ⊥
 
 answer-head : (a : Rule) (rules : List Rule) (h : List ℕ) → matches h a ≡ true → answerOf (a ∷ rules) h ≡ some (a .action)
 unfolding answerOf
@@ -110,13 +110,13 @@ answer-head a rules h e =
 pub clash-differ : (a b : Rule) → clashes a b ≡ true → Differ a b
 clash-differ a b e =
     let c = clash-exact a b .0 e in
-    let f = shown-fits a b (c .0) in
+    let f = lowest-shared-fits a b (c .0) in
     record {
       fits = f;
-      lowest = shown-lowest a b;
+      lowest = lowest-shared-lowest a b;
       answers = λ q.
           c .1 (Option·some-injective (a .action) (b .action)
-          (sym (answer-head a (b ∷ []) (shown a b) (f .0)) ∙ q ∙ answer-head b (a ∷ []) (shown a b) (f .1)));
+          (sym (answer-head a (b ∷ []) (lowestShared a b) (f .0)) ∙ q ∙ answer-head b (a ∷ []) (lowestShared a b) (f .1)));
     }
 
 pub refused-differs : (rules : List Rule) (o : List ℕ) (p : Pair) → crossing rules o ≡ some p

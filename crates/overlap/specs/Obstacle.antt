@@ -11,7 +11,7 @@ use Rattle.rules.specs.declared.Crossing.{Crossing}
 use Rattle.rules.specs.Refusal.{values}
 use Rattle.rules.specs.Rule.{Rule}
 use Rattle.rules.specs.Match.{ruleAt}
-use Rattle.rules.specs.Overlap.{shown}
+use Rattle.rules.specs.Overlap.{lowestShared}
 use Rattle.overlap.specs.declared.judge.Obstacle.{Obstacle}
 use Rattle.overlap.specs.declared.judge.Obstacle.the-variants.{Crossed, Nothing}
 use Rattle.overlap.specs.Pairs.{Pair, firstOf}
@@ -22,7 +22,7 @@ unfoldable pub overtakenBy : List Rule → List ℕ → ℕ → ℕ → Bool
 overtakenBy rules places i j = ltb (getD places j 0) (getD places i 0) && clashes (ruleAt rules i) (ruleAt rules j)
 
 unfoldable pub pairTold : List Rule → ℕ → ℕ → List ℕ
-pairTold rules i j = i ∷ j ∷ shown (ruleAt rules i) (ruleAt rules j)
+pairTold rules i j = i ∷ j ∷ lowestShared (ruleAt rules i) (ruleAt rules j)
 
 unfoldable pub foundTold : List Rule → Option Pair → List ℕ
 foundTold rules none = []

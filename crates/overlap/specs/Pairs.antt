@@ -48,6 +48,6 @@ unfoldable pub pairsOf : List Rule → List Pair
 pairsOf rules = keep (onPair listed rules) (triangle 0 (length rules))
 
 -- "The list is 16-bit numbers, two per pair, lower place first"
-unfoldable pub flat : List Pair → List ℕ
-flat [] = []
-flat (p ∷ ps) = p .lower ∷ p .higher ∷ flat ps
+unfoldable pub entries : List Pair → List ℕ
+entries [] = []
+entries (p ∷ ps) = p .lower ∷ p .higher ∷ entries ps

@@ -13,7 +13,7 @@ ghost use Rattle.rules.specs.Refusal.{values};
 ghost use Rattle.rules.specs.Rule.{ruleOf};
 ghost use Rattle.rules.specs.Match.{ruleAt};
 ghost use Rattle.rules.specs.Table.{recordSize, ruleCount, rulesOf, Accepted, SoundRule};
-ghost use Rattle.rules.specs.Overlap.{share, covers, shown};
+ghost use Rattle.rules.specs.Overlap.{share, covers, lowestShared};
 ghost use Rattle.overlap.specs.Record.{spanIn, leadsValue, spansRelate, rulesRelate};
 
 // The record at a place: sound, as every rule of an accepted table is.
@@ -128,9 +128,9 @@ fn larger_value(a: &[u8], b: &[u8], f: usize) -> u32
 }
 
 // "their lowest shared header: in each field, the value of the longer prefix"
-pub fn shown_header(a: &[u8], b: &[u8]) -> Header
+pub fn lowest_shared(a: &[u8], b: &[u8]) -> Header
     requires { ⌜ (length (now a) ≡ recordSize) × (length (now b) ≡ recordSize) ⌝ }
-    ensures { λ r. ⌜ values r ≡ shown (ruleOf (now (a .entry))) (ruleOf (now (b .entry))) ⌝ }
+    ensures { λ r. ⌜ values r ≡ lowestShared (ruleOf (now (a .entry))) (ruleOf (now (b .entry))) ⌝ }
 {
     Header {
         source: larger_value(a, b, 0),

@@ -1,9 +1,9 @@
 // The judgement of a move: the first pair of rules that changes order, shares a header and differs in action.
 use crate::Inverse;
 use crate::compare::rule_at;
+use crate::lowest_shared;
 use crate::same_action;
 use crate::shares;
-use crate::shown_header;
 use rules::Crossing;
 use rules::RECORD_BYTES;
 ghost use mathlib.Core.Path.{_≡_};
@@ -54,7 +54,7 @@ fn crossing_at(table: &[u8], lower: usize, higher: usize) -> Crossing
     Crossing {
         lower,
         higher,
-        header: shown_header(rule_at(table, lower), rule_at(table, higher)),
+        header: lowest_shared(rule_at(table, lower), rule_at(table, higher)),
     }
 }
 

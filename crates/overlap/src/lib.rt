@@ -6,9 +6,9 @@ mod orders;
 mod pairs;
 
 pub use compare::covers;
+pub use compare::lowest_shared;
 pub use compare::same_action;
 pub use compare::shares;
-pub use compare::shown_header;
 pub use judge::Obstacle;
 pub use judge::first_crossing;
 pub use moves::write_moved;

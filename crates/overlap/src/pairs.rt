@@ -10,7 +10,7 @@ ghost use lib.ListN.{length, drop};
 ghost use Rattle.bits.specs.Writing.{Writes};
 ghost use Rattle.rules.specs.Match.{ruleAt};
 ghost use Rattle.rules.specs.Table.{ruleCount, rulesOf, Accepted};
-ghost use Rattle.overlap.specs.Pairs.{listed, pairsOf, flat};
+ghost use Rattle.overlap.specs.Pairs.{listed, pairsOf, entries};
 ghost use Rattle.overlap.specs.Steps.{listedRow, listedWith};
 
 // "A listed pair shares a header and neither covers the other, whatever the actions."
@@ -58,8 +58,8 @@ pub fn count_pairs(table: &[u8]) -> usize
 // Writes a pair, "lower place first", if it is listed; answers where the next one goes.
 fn put_pair(table: &[u8], lower: usize, higher: usize, list: &mut [u16], at: usize) -> usize
     requires { ⌜ Accepted (now table) × (lower < ruleCount (now table)) × (higher < ruleCount (now table)) ⌝ }
-    requires { ⌜ at + length (flat (listedRow (now table) lower higher 1)) ≤ length (now list) ⌝ }
-    ensures { λ r. ⌜ Writes (now (list .entry)) at (flat (listedRow (now (table .entry)) lower higher 1)) (now (list .exit)) r ⌝ }
+    requires { ⌜ at + length (entries (listedRow (now table) lower higher 1)) ≤ length (now list) ⌝ }
+    ensures { λ r. ⌜ Writes (now (list .entry)) at (entries (listedRow (now (table .entry)) lower higher 1)) (now (list .exit)) r ⌝ }
 {
     if !is_listed(table, lower, higher) {
         return at;
@@ -72,8 +72,8 @@ fn put_pair(table: &[u8], lower: usize, higher: usize, list: &mut [u16], at: usi
 // Writes the listed pairs of a place with the higher ones; answers where the next one goes.
 fn write_row(table: &[u8], lower: usize, list: &mut [u16], start: usize) -> usize
     requires { ⌜ Accepted (now table) × (lower < ruleCount (now table)) ⌝ }
-    requires { ⌜ start + length (flat (listedWith (now table) lower)) ≤ length (now list) ⌝ }
-    ensures { λ r. ⌜ Writes (now (list .entry)) start (flat (listedWith (now (table .entry)) lower)) (now (list .exit)) r ⌝ }
+    requires { ⌜ start + length (entries (listedWith (now table) lower)) ≤ length (now list) ⌝ }
+    ensures { λ r. ⌜ Writes (now (list .entry)) start (entries (listedWith (now (table .entry)) lower)) (now (list .exit)) r ⌝ }
 {
     let mut at = start;
     for higher in lower + 1..table.len() / RECORD_BYTES {
@@ -85,7 +85,7 @@ fn write_row(table: &[u8], lower: usize, list: &mut [u16], start: usize) -> usiz
 // Writes the listed pairs, "sorted by the lower and then the higher place"; later entries keep their values.
 pub fn write_pairs(table: &[u8], list: &mut [u16])
     requires { ⌜ Accepted (now table) × (2 * length (pairsOf (rulesOf (now table))) ≤ length (now list)) ⌝ }
-    ensures { λ _. ⌜ now (list .exit) ≡ flat (pairsOf (rulesOf (now (table .entry)))) ++ drop (2 * length (pairsOf (rulesOf (now (table .entry))))) (now (list .entry)) ⌝ }
+    ensures { λ _. ⌜ now (list .exit) ≡ entries (pairsOf (rulesOf (now (table .entry)))) ++ drop (2 * length (pairsOf (rulesOf (now (table .entry))))) (now (list .entry)) ⌝ }
 {
     let mut at = 0;
     for lower in 0..table.len() / RECORD_BYTES {

@@ -1,26 +1,37 @@
 -- A header's bytes from its values; and two rules that share any values share a header of 13 bytes.
 -- Assumes nothing.
-use mathlib.Core.Path.{_≡_, refl, _∙_, subst}
+use mathlib.Core.Path.{_≡_, refl, sym, ap, _∙_, subst}
 use mathlib.Core.Bool.{true}
-use mathlib.Core.List.{List, [], _∷_, _++_, zipWith}
-use Prim.Native.Nat.{ℕ, zero, suc, _%_, _^_, _<_, max}
-use native.Mathlib.Nat.{mod-lt, div-lt-iff-lt-mul, one-le-pow, zero-lt-suc, pow-suc, mul-comm}
+use mathlib.Core.List.{List, [], _∷_, zipWith, flatten}
+use Prim.Native.Nat.{ℕ, zero, suc, _+_, _*_, _/_, _%_, _^_, _<_, max}
+use native.Mathlib.Nat.{mod-lt, div-lt-iff-lt-mul, one-le-pow, zero-lt-suc, pow-suc, mul-comm, zero-add}
 use native.Mathlib.Omega.{arith}
-use lib.ListN.{length}
+use lib.ListN.{length, getD}
+use lib.Pow.{pow-add}
 use Rattle.bits.specs.Number.{Bytes, numberAt, bytesOf}
+use Rattle.bits.specs.Tests.{upFrom}
 use Rattle.bits.proofs.NumberLaws.{bytes-append, number-bytes}
+use Rattle.bits.proofs.EachLaws.{getD-map, up-at}
 use Rattle.rules.specs.declared.Header.{Header}
-use Rattle.rules.specs.Field.{fieldAt, valueIn}
+use Rattle.rules.specs.Field.{Field, fields, fieldAt, valueIn}
 use Rattle.rules.specs.Rule.{spanOf, ruleOf}
 use Rattle.rules.specs.Table.{SoundRule}
-use Rattle.rules.specs.Header.{headerSize, headerValues}
+use Rattle.rules.specs.Header.{headerSize, headerValues, headerBytes}
 use Rattle.rules.specs.Match.{matches}
-use Rattle.rules.specs.Overlap.{share, spanLow, shown}
-use Rattle.rules.specs.Refusal.{values, headerBytes}
+use Rattle.rules.specs.Overlap.{share, spanLow, lowestShared}
+use Rattle.rules.specs.Refusal.{values}
+use Rattle.rules.proofs.FieldLaws.{field-sound}
 use Rattle.rules.proofs.RuleLaws.{value-small}
-use Rattle.rules.proofs.OverlapLaws.{shown-fits}
+use Rattle.rules.proofs.OverlapLaws.{lowest-shared-fits}
 
 -- ---- bytes
+
+-- a byte is 8 bits
+byte-bits : (n : ℕ) → 256 ^ n ≡ 2 ^ (8 * n)
+byte-bits zero = refl
+byte-bits (suc n) =
+    let e : 8 * suc n ≡ 8 * n + 8 = omega arith in
+    pow-suc 256 n ∙ ap (λ (x : ℕ). x * 256) (byte-bits n) ∙ sym (pow-add 2 (8 * n) 8) ∙ ap (λ (k : ℕ). 2 ^ k) (sym e)
 
 bytes-small : (size v : ℕ) → v < 256 ^ size → Bytes (bytesOf size v)
 unfolding bytesOf
@@ -29,39 +40,31 @@ bytes-small (suc size) v h zero =
     div-lt-iff-lt-mul (one-le-pow size 256 (zero-lt-suc 255)) .1 (subst (λ (x : ℕ). v < x) (pow-suc 256 size ∙ mul-comm (256 ^ size) 256) h)
 bytes-small (suc size) v h (suc k) = bytes-small size (v % 256 ^ size) (mod-lt v (one-le-pow size 256 (zero-lt-suc 255))) k
 
+-- values at the widths of some fields, each of which fits its field
+fields-bytes : (fs : List Field) (vs : List ℕ) → ((k : ℕ) → k < length fs → getD vs k 0 < 256 ^ (getD fs k (fieldAt 5) .width / 8))
+    → Bytes (flatten (zipWith (λ (f : Field) v. bytesOf (f .width / 8) v) fs vs))
+unfolding flatten zipWith
+fields-bytes [] vs fits = λ k. omega arith
+fields-bytes (f ∷ fs) [] fits = λ k. omega arith
+fields-bytes (f ∷ fs) (v ∷ vs) fits =
+    bytes-append (bytesOf (f .width / 8) v) (flatten (zipWith (λ (g : Field) x. bytesOf (g .width / 8) x) fs vs))
+    (bytes-small (f .width / 8) v (fits 0 (omega arith))) (fields-bytes fs vs (λ k h. fits (suc k) (omega arith)))
+
 -- ---- a header's bytes
 
--- its values fit their fields
-pub record Fits (h : Header) : Type 0 where
-  pub source : h .source < 2 ^ 32
-  pub destination : h .destination < 2 ^ 32
-  pub sport : h .sport < 2 ^ 16
-  pub dport : h .dport < 2 ^ 16
-  pub protocol : h .protocol < 2 ^ 8
+pub header-bytes : (vs : List ℕ) → ((f : ℕ) → f < 5 → getD vs f 0 < 2 ^ (fieldAt f .width)) → Bytes (headerBytes vs)
+unfolding headerBytes
+header-bytes vs fits = fields-bytes fields vs (λ f h. rw (byte-bits (fieldAt f .width / 8), field-sound f h .whole) (fits f h))
 
 module _ (h : Header) where
-  pub header-size : length (headerBytes h) ≡ headerSize
-  unfolding headerBytes bytesOf
+  pub header-size : length (headerBytes (values h)) ≡ headerSize
+  unfolding headerBytes bytesOf zipWith flatten
   header-size = refl
 
-  pub header-values : headerValues (headerBytes h) ≡ values h
-  unfolding headerValues valueIn headerBytes numberAt bytesOf
+  pub header-values : headerValues (headerBytes (values h)) ≡ values h
+  unfolding headerValues valueIn headerBytes numberAt bytesOf zipWith flatten
   header-values = λ i.
       number-bytes 3 (h .source) i ∷ number-bytes 3 (h .destination) i ∷ number-bytes 1 (h .sport) i ∷ number-bytes 1 (h .dport) i ∷ number-bytes 0 (h .protocol) i ∷ []
-
-  pub header-bytes : Fits h → Bytes (headerBytes h)
-  unfolding headerBytes
-  header-bytes f =
-      let addresses = bytesOf 4 (h .source) ++ bytesOf 4 (h .destination) in
-      let source-port = bytesOf 2 (h .sport) in
-      let port = bytesOf 2 (h .dport) in
-      bytes-append (addresses ++ source-port ++ port) (bytesOf 1 (h .protocol))
-      (bytes-append (addresses ++ source-port) port
-      (bytes-append addresses source-port
-      (bytes-append (bytesOf 4 (h .source)) (bytesOf 4 (h .destination)) (bytes-small 4 (h .source) (f .source)) (bytes-small 4 (h .destination) (f .destination)))
-      (bytes-small 2 (h .sport) (f .sport)))
-      (bytes-small 2 (h .dport) (f .dport)))
-      (bytes-small 1 (h .protocol) (f .protocol))
 
 -- ---- two rules that share
 
@@ -83,23 +86,21 @@ module _ (a b : List ℕ) (ba : Bytes a) (bb : Bytes b) (ra : SoundRule a) (rb :
   abbrev lowest : Header
   lowest = record { source = larger 0; destination = larger 1; sport = larger 2; dport = larger 3; protocol = larger 4 }
 
-  lowest-shown : values lowest ≡ shown (ruleOf a) (ruleOf b)
-  unfolding shown spanLow spanOf ruleOf zipWith
-  lowest-shown = refl
+  lowest-values : values lowest ≡ lowestShared (ruleOf a) (ruleOf b)
+  unfolding lowestShared spanLow spanOf ruleOf zipWith
+  lowest-values = refl
+
+  lowest-small : (f : ℕ) → f < 5 → getD (values lowest) f 0 < 2 ^ (fieldAt f .width)
+  unfolding upFrom
+  lowest-small f h = rw (getD-map larger (upFrom 0 5) f 0 0 h, up-at 0 5 f 0 h, zero-add f) (larger-small f h)
 
   pub shared-header : share (ruleOf a) (ruleOf b) ≡ true → Shared a b
   shared-header e =
-      let fits = shown-fits (ruleOf a) (ruleOf b) e in
-      let says : headerValues (headerBytes lowest) ≡ shown (ruleOf a) (ruleOf b) = header-values lowest ∙ lowest-shown in
+      let fits = lowest-shared-fits (ruleOf a) (ruleOf b) e in
+      let says : headerValues (headerBytes (values lowest)) ≡ lowestShared (ruleOf a) (ruleOf b) = header-values lowest ∙ lowest-values in
       record {
-        header = headerBytes lowest;
-        bytes = header-bytes lowest (record {
-          source = larger-small 0 (omega arith);
-          destination = larger-small 1 (omega arith);
-          sport = larger-small 2 (omega arith);
-          dport = larger-small 3 (omega arith);
-          protocol = larger-small 4 (omega arith);
-        });
+        header = headerBytes (values lowest);
+        bytes = header-bytes (values lowest) lowest-small;
         size = header-size lowest;
         first = rw says (fits .0);
         second = rw says (fits .1);

@@ -1,7 +1,7 @@
 -- Two rules against each other.
--- Over any width, the tests of spans say of two prefixes what is meant: they share when one prefix leads the other, the shown value is then
--- the longer prefix's, and one covers the other when its prefix leads the other's.
--- Over any rules, two share exactly when some header matches both, the shown header is the lowest of those, and one covers another
+-- Over any width, the tests of spans say of two prefixes what is meant: they share when one prefix leads the other, the lowest shared value is
+-- then the longer prefix's, and one covers the other when its prefix leads the other's.
+-- Over any rules, two share exactly when some header matches both, their lowest shared header is the lowest of those, and one covers another
 -- exactly when it matches all that the other does.
 -- Assumes nothing.
 use mathlib.Core.Path.{_≡_, refl, sym, ap, ap₂, fun-ext, _∙_}
@@ -21,7 +21,7 @@ use Rattle.bits.proofs.EachLaws.{each-flip, each-both, each-made, each-makes}
 use Rattle.bits.proofs.PathLaws.{leads-trans, leads-either, leads-prefix}
 use Rattle.rules.specs.Rule.{Span, has, spanOf, Rule}
 use Rattle.rules.specs.Match.{matches}
-use Rattle.rules.specs.Overlap.{spanShare, share, spanCovers, covers, spanLow, shown}
+use Rattle.rules.specs.Overlap.{spanShare, share, spanCovers, covers, spanLow, lowestShared}
 use Rattle.rules.proofs.SpanLaws.{has-ends, in-span, ends-in, own-in, has-leads, has-within}
 
 -- ---- two spans
@@ -31,7 +31,7 @@ pub common-share : (s t : Span) (x : ℕ) → has s x ≡ true → has t x ≡ t
 unfolding spanShare
 common-share s t x p q = le-leb (max (s .low) (t .low)) (min (s .high) (t .high)) (omega (arith, has-ends s x p, has-ends t x q))
 
--- and then the shown value is one
+-- and then the larger low end is one
 pub low-common : (s t : Span) → spanShare s t ≡ true → (has s (spanLow s t) ≡ true) × (has t (spanLow s t) ≡ true)
 unfolding spanShare spanLow
 low-common s t e =
@@ -111,7 +111,7 @@ module _ (w v l x m : ℕ) (hl : l ≤ w) (hm : m ≤ w) (hv : v < 2 ^ w) (hx : 
   leads-share : leads (prefix w v l) (prefix w x m) ≡ true → spanShare (spanOf w v l) (spanOf w x m) ≡ true
   leads-share e = common-share (spanOf w v l) (spanOf w x m) x (leads-value e) (own-in w x m)
 
-  -- both prefixes lead the shown value
+  -- both prefixes lead the lowest shared value
   share-either : spanShare (spanOf w v l) (spanOf w x m) ≡ true → (leads (prefix w v l) (prefix w x m) || leads (prefix w x m) (prefix w v l)) ≡ true
   share-either e =
       let y = spanLow (spanOf w v l) (spanOf w x m) in
@@ -119,15 +119,15 @@ module _ (w v l x m : ℕ) (hl : l ≤ w) (hm : m ≤ w) (hv : v < 2 ^ w) (hx : 
       let hy = has-within w x m y hm hx cx (f .1) in
       leads-either (prefix w v l) (prefix w x m) (bits w y) (sym (has-leads w v l y hl hv hy cv) ∙ f .0) (sym (has-leads w x m y hm hx hy cx) ∙ f .1)
 
-  -- the shown value is the longer prefix's
-  pub shown-longer : leads (prefix w v l) (prefix w x m) ≡ true → spanLow (spanOf w v l) (spanOf w x m) ≡ x
+  -- the lowest shared value is the longer prefix's
+  pub low-longer : leads (prefix w v l) (prefix w x m) ≡ true → spanLow (spanOf w v l) (spanOf w x m) ≡ x
   unfolding spanLow spanOf
-  shown-longer e = max-eq-right (has-ends (spanOf w v l) x (leads-value e) .0)
+  low-longer e = max-eq-right (has-ends (spanOf w v l) x (leads-value e) .0)
 
 module _ (w v l x m : ℕ) (hl : l ≤ w) (hm : m ≤ w) (hv : v < 2 ^ w) (hx : x < 2 ^ w) (cv : stray w v l ≡ false) (cx : stray w x m ≡ false) where
   -- the same where the first prefix is the longer
-  pub shown-longer-first : leads (prefix w x m) (prefix w v l) ≡ true → spanLow (spanOf w v l) (spanOf w x m) ≡ v
-  shown-longer-first e = low-swap (spanOf w v l) (spanOf w x m) ∙ shown-longer w x m v l hm hl hx hv cx cv e
+  pub low-longer-first : leads (prefix w x m) (prefix w v l) ≡ true → spanLow (spanOf w v l) (spanOf w x m) ≡ v
+  low-longer-first e = low-swap (spanOf w v l) (spanOf w x m) ∙ low-longer w x m v l hm hl hx hv cx cv e
 
   pub share-leads : spanShare (spanOf w v l) (spanOf w x m) ≡ (leads (prefix w v l) (prefix w x m) || leads (prefix w x m) (prefix w v l))
   share-leads =
@@ -140,20 +140,20 @@ module _ (w v l x m : ℕ) (hl : l ≤ w) (hm : m ≤ w) (hv : v < 2 ^ w) (hx : 
 
 -- ---- two rules
 
--- the shown header matches both
-pub shown-fits : (a b : Rule) → share a b ≡ true → (matches (shown a b) a ≡ true) × (matches (shown a b) b ≡ true)
-unfolding share matches shown
-shown-fits a b e = each-makes spanShare spanLow has has low-common (a .spans) (b .spans) e
+-- the lowest shared header matches both
+pub lowest-shared-fits : (a b : Rule) → share a b ≡ true → (matches (lowestShared a b) a ≡ true) × (matches (lowestShared a b) b ≡ true)
+unfolding share matches lowestShared
+lowest-shared-fits a b e = each-makes spanShare spanLow has has low-common (a .spans) (b .spans) e
 
 -- and in each field no header that matches both has a lower value
-pub shown-lowest : (a b : Rule) (h : List ℕ) → matches h a ≡ true → matches h b ≡ true → each leb (shown a b) h ≡ true
-unfolding matches shown
-shown-lowest a b h e f = each-made has has spanLow leb low-lowest (a .spans) (b .spans) h e f
+pub lowest-shared-lowest : (a b : Rule) (h : List ℕ) → matches h a ≡ true → matches h b ≡ true → each leb (lowestShared a b) h ≡ true
+unfolding matches lowestShared
+lowest-shared-lowest a b h e f = each-made has has spanLow leb low-lowest (a .spans) (b .spans) h e f
 
 pub share-exact : (a b : Rule) → (share a b ≡ true) ↔ ((h : List ℕ) × (matches h a ≡ true) × (matches h b ≡ true))
 unfolding share matches
 share-exact a b = (
-  λ e. let f = shown-fits a b e in (shown a b, f .0, f .1),
+  λ e. let f = lowest-shared-fits a b e in (lowestShared a b, f .0, f .1),
   λ c. each-both has has spanShare common-share (a .spans) (b .spans) (c .0) (c .1) (c .2),
 )
 
@@ -190,5 +190,5 @@ pub covers-exact : (a b : Rule) → share b b ≡ true → (covers a b ≡ true)
 unfolding covers matches
 covers-exact a b e = (
   λ c h. covers-matches a b h c,
-  matches-covers (a .spans) (b .spans) (shown b b) (shown-fits b b e .0),
+  matches-covers (a .spans) (b .spans) (lowestShared b b) (lowest-shared-fits b b e .0),
 )

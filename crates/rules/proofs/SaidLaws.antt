@@ -1,7 +1,7 @@
 -- What is said fixes the answer: no two refusals, and no two answers of a check or of a reading, say the same.
 -- Assumes nothing.
 use mathlib.Core.Path.{_≡_, refl, sym, ap, _∙_}
-use mathlib.Core.List.{List, [], _∷_}
+use mathlib.Core.List.{List, [], _∷_, zipWith, flatten}
 use Prim.Native.Nat.{ℕ, zero, suc}
 use lib.ListN.{getD, drop}
 use Rattle.bits.specs.Number.{numberAt, bytesOf}
@@ -12,7 +12,8 @@ use Rattle.rules.specs.declared.Refusal.the-variants.{RaggedTable, TooMa
 use Rattle.rules.specs.declared.Checked.{Checked}
 use Rattle.rules.specs.declared.Checked.the-variants.{Accepted, Refused}
 use Rattle.rules.specs.declared.Heard as heard
-use Rattle.rules.specs.Refusal.{headerBytes, said, checkedSaid, heardSaid, firstRefusal}
+use Rattle.rules.specs.Header.{headerBytes}
+use Rattle.rules.specs.Refusal.{values, said, checkedSaid, heardSaid, firstRefusal}
 
 -- ---- a header from its bytes, and from its values
 
@@ -25,8 +26,8 @@ fromBytes bs = record {
   protocol = numberAt bs 12 1;
 }
 
-from-header : (h : Header) → fromBytes (headerBytes h) ≡ h
-unfolding fromBytes headerBytes numberAt bytesOf
+from-header : (h : Header) → fromBytes (headerBytes (values h)) ≡ h
+unfolding fromBytes headerBytes numberAt bytesOf zipWith flatten
 from-header h = λ i. record {
   source = number-bytes 3 (h .source) i;
   destination = number-bytes 3 (h .destination) i;

@@ -2,9 +2,9 @@
 -- Read in this order.
 pub mod Field
 pub mod Action
+pub mod Header
 pub mod Refusal
 pub mod Rule
 pub mod Table
-pub mod Header
 pub mod Match
 pub mod Overlap

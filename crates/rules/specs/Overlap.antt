@@ -21,9 +21,9 @@ spanCovers s t = leb (s .low) (t .low) && leb (t .high) (s .high)
 unfoldable pub covers : Rule → Rule → Bool
 covers a b = each spanCovers (a .spans) (b .spans)
 
--- "their lowest shared header: in each field, the value of the longer prefix" (`shown-longer`)
+-- "their lowest shared header: in each field, the value of the longer prefix" (`low-longer`)
 unfoldable pub spanLow : Span → Span → ℕ
 spanLow s t = max (s .low) (t .low)
 
-unfoldable pub shown : Rule → Rule → List ℕ
-shown a b = zipWith spanLow (a .spans) (b .spans)
+unfoldable pub lowestShared : Rule → Rule → List ℕ
+lowestShared a b = zipWith spanLow (a .spans) (b .spans)

@@ -1,10 +1,9 @@
 -- What the desk says, in 01's own numbers: the number of each refusal and the values that it carries ("The desk's numbers").
 -- An answer is said as the list of its number and then its values.
 -- Assumes nothing.
-use mathlib.Core.List.{List, [], _∷_, _++_}
+use mathlib.Core.List.{List, [], _∷_}
 use Prim.Native.Nat.{ℕ, zero, suc}
 use lib.ListN.{getD}
-use Rattle.bits.specs.Number.{bytesOf}
 use Rattle.rules.specs.declared.Header.{Header}
 use Rattle.rules.specs.declared.Refusal.{Refusal}
 use Rattle.rules.specs.declared.Refusal.the-variants.{RaggedTable, TooManyRules, LongPrefix, StrayBit, UnknownAction, SpareBytes, ShortArea, NotAHeader, DamagedArea, ShortList, NotAnOrder, ShortOutput, NotAllowed}
@@ -13,14 +12,11 @@ use Rattle.rules.specs.declared.numbers.Place.the-variants.{At, Nowhere}
 use Rattle.rules.specs.declared.Checked.{Checked}
 use Rattle.rules.specs.declared.Checked.the-variants.{Accepted, Refused}
 use Rattle.rules.specs.declared.Heard as heard
+use Rattle.rules.specs.Header.{headerBytes}
 
 -- the five values of a header, in their order
 abbrev pub values : Header → List ℕ
 values h = h .source ∷ h .destination ∷ h .sport ∷ h .dport ∷ h .protocol ∷ []
-
--- a header's 13 bytes
-unfoldable pub headerBytes : Header → List ℕ
-headerBytes h = bytesOf 4 (h .source) ++ bytesOf 4 (h .destination) ++ bytesOf 2 (h .sport) ++ bytesOf 2 (h .dport) ++ bytesOf 1 (h .protocol)
 
 unfoldable pub said : Refusal → List ℕ
 said RaggedTable = 1 ∷ []
@@ -35,7 +31,7 @@ said DamagedArea = 9 ∷ []
 said ShortList = 10 ∷ []
 said NotAnOrder = 11 ∷ []
 said ShortOutput = 12 ∷ []
-said (NotAllowed c) = 13 ∷ c .lower ∷ c .higher ∷ headerBytes (c .header)
+said (NotAllowed c) = 13 ∷ c .lower ∷ c .higher ∷ headerBytes (values (c .header))
 
 -- the number alone
 unfoldable pub numberOf : Refusal → ℕ

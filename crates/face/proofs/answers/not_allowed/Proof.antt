@@ -1,15 +1,17 @@
 -- `not_allowed` meets its contract: what it says is the pair and then the bytes of the header's five values.
 -- Assumes nothing.
 use mathlib.Core.Path.{refl}
+use mathlib.Core.List.{zipWith, flatten}
 use borrow.Author.Needs.{needs}
 use Rattle.bits.specs.Number.{bytesOf}
-use Rattle.rules.specs.Refusal.{headerBytes, said}
+use Rattle.rules.specs.Header.{headerBytes}
+use Rattle.rules.specs.Refusal.{said}
 use Rattle.face.proofs.ByteLaws.{crossing-said}
 use Rattle.face.proofs.answers.not_allowed.Statement.{statement}
 use Rattle.face.proofs.answers.not_allowed.Tie as tie
 
 returns : tie.Need-returns
-unfolding said headerBytes bytesOf
+unfolding said headerBytes bytesOf zipWith flatten
 returns c =
     let fourth = c .before in
     let third = fourth .before in

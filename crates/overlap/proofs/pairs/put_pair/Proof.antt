@@ -9,25 +9,25 @@ use borrow.Author.Tests.{not-true, not-false}
 use denote.Ref.{now}
 use Rattle.bits.proofs.WritingLaws.{writes-two, writes-nothing}
 use Rattle.rules.proofs.TableLaws.{accepted-sound}
-use Rattle.overlap.specs.Pairs.{flat}
+use Rattle.overlap.specs.Pairs.{entries}
 use Rattle.overlap.specs.Steps.{listedRow}
 use Rattle.overlap.proofs.LoopLaws.{one-listed, none-listed}
 use Rattle.overlap.proofs.pairs.put_pair.Statement.{statement}
 use Rattle.overlap.proofs.pairs.put_pair.Tie as tie
 
 returns : tie.Need-returns
-unfolding flat
+unfolding entries
 returns c =
     let a = c .before .before .before .before .args in
-    let words = ap flat (none-listed (now (a .table)) (a .lower) (a .higher) (sym (c .before .is-listed .ensures) ∙ not-true _ (c .if1 .taken))) in
+    let words = ap entries (none-listed (now (a .table)) (a .lower) (a .higher) (sym (c .before .is-listed .ensures) ∙ not-true _ (c .if1 .taken))) in
     rw words (writes-nothing (now (a .list)) (a .at))
 
 -- where the pair is listed
-words : (c : tie.Else1) → let a = c .before .before .before .before .args in flat (listedRow (now (a .table)) (a .lower) (a .higher) 1) ≡ a .lower ∷ a .higher ∷ []
-unfolding flat
+words : (c : tie.Else1) → let a = c .before .before .before .before .args in entries (listedRow (now (a .table)) (a .lower) (a .higher) 1) ≡ a .lower ∷ a .higher ∷ []
+unfolding entries
 words c =
     let a = c .before .before .before .before .args in
-    ap flat (one-listed (now (a .table)) (a .lower) (a .higher) (sym (c .before .is-listed .ensures) ∙ not-false _ (c .if1 .left)))
+    ap entries (one-listed (now (a .table)) (a .lower) (a .higher) (sym (c .before .is-listed .ensures) ∙ not-false _ (c .if1 .left)))
 
 cast-list : tie.Need-cast-list
 cast-list c = let s = c .before .before .before .before in omega (arith, accepted-sound (now (s .args .table)) (s .pre .0 .0) .few)

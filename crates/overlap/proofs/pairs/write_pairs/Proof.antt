@@ -9,18 +9,18 @@ use borrow.Author.Needs.{needs}
 use denote.Ref.{now}
 use Rattle.bits.proofs.WritingLaws.{Leaves, leaves-all, leaves-room, leaves-rest, leaves-none, writes-front}
 use Rattle.rules.specs.Table.{ruleCount, rulesOf}
-use Rattle.overlap.specs.Pairs.{pairsOf, flat}
+use Rattle.overlap.specs.Pairs.{pairsOf, entries}
 use Rattle.overlap.specs.Steps.{listedWith, listedFrom}
-use Rattle.overlap.proofs.LoopLaws.{rows-parts, rows-done, rows-all, flat-size, flat-append}
+use Rattle.overlap.proofs.LoopLaws.{rows-parts, rows-done, rows-all, entries-size, entries-append}
 use Rattle.overlap.proofs.pairs.write_pairs.Statement.{statement}
 use Rattle.overlap.proofs.pairs.write_pairs.Tie as tie
 
 -- the words of the pairs from place i on
 abbrev words : List ℕ → ℕ → List ℕ
-words table i = flat (listedFrom table i)
+words table i = entries (listedFrom table i)
 
 abbrev all : List ℕ → List ℕ
-all table = flat (pairsOf (rulesOf table))
+all table = entries (pairsOf (rulesOf table))
 
 abbrev Inv-loop : tie.InvT-loop
 Inv-loop table list₀ at₀ lower₀ lower-end list at lower =
@@ -34,14 +34,14 @@ abbrev μ-loop : tie.MeasureT-loop
 loop-holds : tie.Need-loop-holds Inv-loop μ-loop
 loop-holds c =
     let a = c .before .before .args in
-    (omega arith, omega arith, rw (ap flat (rows-all (now (a .table)))) (leaves-all (now (a .list)) 0 (all (now (a .table)))))
+    (omega arith, omega arith, rw (ap entries (rows-all (now (a .table)))) (leaves-all (now (a .list)) 0 (all (now (a .table)))))
 
 -- the words that are left are one row's and the rest
-parts : (table : List ℕ) (i : ℕ) → i < ruleCount table → words table i ≡ flat (listedWith table i) ++ words table (i + 1)
-parts table i h = ap flat (rows-parts table i h) ∙ simp flat-append
+parts : (table : List ℕ) (i : ℕ) → i < ruleCount table → words table i ≡ entries (listedWith table i) ++ words table (i + 1)
+parts table i h = ap entries (rows-parts table i h) ∙ simp entries-append
 
 room : (table list : List ℕ) → 2 * length (pairsOf (rulesOf table)) ≤ length list → 0 + length (all table) ≤ length list
-room table list h = omega (arith, flat-size (pairsOf (rulesOf table)))
+room table list h = omega (arith, entries-size (pairsOf (rulesOf table)))
 
 write-row-requires : tie.Need-write-row-requires Inv-loop μ-loop
 write-row-requires c κs =
@@ -49,7 +49,7 @@ write-row-requires c κs =
     let s = k .before .before .before in
     let table = now (s .args .table) in
     let i = k .loop .lower in
-    let row = flat (listedWith table i) in
+    let row = entries (listedWith table i) in
     (search needs, leaves-room (k .loop .inv .2) row (words table (i + 1)) (parts table i (omega arith)) (room table (now (s .args .list)) (s .pre .1)))
 
 loop-again : tie.Need-loop-again Inv-loop μ-loop
@@ -62,14 +62,14 @@ loop-again c =
     )
 
 returns : tie.Need-returns Inv-loop μ-loop
-unfolding flat
+unfolding entries
 returns c =
     let k = c .before in
     let s = k .before .before .before in
     let table = now (s .args .table) in
     let list = now (s .args .list) in
-    let w = leaves-none (k .loop .inv .2) (ap flat (rows-done table (k .loop .lower) (omega arith))) in
-    writes-front (omega (arith, room table list (s .pre .1))) w ∙ ap (λ (n : ℕ). all table ++ drop n list) (flat-size (pairsOf (rulesOf table)))
+    let w = leaves-none (k .loop .inv .2) (ap entries (rows-done table (k .loop .lower) (omega arith))) in
+    writes-front (omega (arith, room table list (s .pre .1))) w ∙ ap (λ (n : ℕ). all table ++ drop n list) (entries-size (pairsOf (rulesOf table)))
 
 pub write-pairs-spec : {M : Type 1} → statement M
 write-pairs-spec =

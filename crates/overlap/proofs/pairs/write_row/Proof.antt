@@ -8,15 +8,15 @@ use borrow.Author.Needs.{needs}
 use denote.Ref.{now}
 use Rattle.bits.proofs.WritingLaws.{Leaves, leaves-all, leaves-room, leaves-rest, leaves-none}
 use Rattle.rules.specs.Table.{ruleCount}
-use Rattle.overlap.specs.Pairs.{flat}
+use Rattle.overlap.specs.Pairs.{entries}
 use Rattle.overlap.specs.Steps.{listedRow}
-use Rattle.overlap.proofs.LoopLaws.{row-parts, row-done, flat-append}
+use Rattle.overlap.proofs.LoopLaws.{row-parts, row-done, entries-append}
 use Rattle.overlap.proofs.pairs.write_row.Statement.{statement}
 use Rattle.overlap.proofs.pairs.write_row.Tie as tie
 
 -- the words of the row's pairs from place j on
 abbrev words : List ℕ → ℕ → ℕ → List ℕ
-words table i j = flat (listedRow table i j (ruleCount table - j))
+words table i j = entries (listedRow table i j (ruleCount table - j))
 
 abbrev Inv-loop : tie.InvT-loop
 Inv-loop table lower list₀ start at₀ higher₀ higher-end list at higher =
@@ -33,8 +33,8 @@ loop-holds c =
     (omega arith, omega arith, leaves-all (now (a .list)) (a .start) (words (now (a .table)) (a .lower) (a .lower + 1)))
 
 -- the words that are left are one pair's and the rest
-parts : (table : List ℕ) (i j : ℕ) → j < ruleCount table → words table i j ≡ flat (listedRow table i j 1) ++ words table i (j + 1)
-parts table i j h = ap flat (row-parts table i j h) ∙ simp flat-append
+parts : (table : List ℕ) (i j : ℕ) → j < ruleCount table → words table i j ≡ entries (listedRow table i j 1) ++ words table i (j + 1)
+parts table i j h = ap entries (row-parts table i j h) ∙ simp entries-append
 
 put-pair-requires : tie.Need-put-pair-requires Inv-loop μ-loop
 put-pair-requires c κs =
@@ -43,7 +43,7 @@ put-pair-requires c κs =
     let table = now (s .args .table) in
     let i = s .args .lower in
     let j = k .loop .higher in
-    (search needs, leaves-room (k .loop .inv .2) (flat (listedRow table i j 1)) (words table i (j + 1)) (parts table i j (omega arith)) (s .pre .1))
+    (search needs, leaves-room (k .loop .inv .2) (entries (listedRow table i j 1)) (words table i (j + 1)) (parts table i j (omega arith)) (s .pre .1))
 
 loop-again : tie.Need-loop-again Inv-loop μ-loop
 loop-again c =
@@ -55,11 +55,11 @@ loop-again c =
     )
 
 returns : tie.Need-returns Inv-loop μ-loop
-unfolding flat
+unfolding entries
 returns c =
     let k = c .before in
     let s = k .before .before .before in
-    leaves-none (k .loop .inv .2) (ap flat (row-done (now (s .args .table)) (s .args .lower) (k .loop .higher) (omega arith)))
+    leaves-none (k .loop .inv .2) (ap entries (row-done (now (s .args .table)) (s .args .lower) (k .loop .higher) (omega arith)))
 
 pub write-row-spec : {M : Type 1} → statement M
 write-row-spec =

@@ -1,14 +1,14 @@
--- `shown_header` meets its contract: in each field the larger low end is the larger value.
+-- `lowest_shared` meets its contract: in each field the larger low end is the larger value.
 -- Assumes nothing.
 use mathlib.Core.List.{[], _∷_, zipWith}
 use Rattle.rules.specs.Rule.{spanOf, ruleOf}
-use Rattle.rules.specs.Overlap.{spanLow, shown}
+use Rattle.rules.specs.Overlap.{spanLow, lowestShared}
 use borrow.Author.Needs.{needs}
-use Rattle.overlap.proofs.compare.shown_header.Statement.{statement}
-use Rattle.overlap.proofs.compare.shown_header.Tie as tie
+use Rattle.overlap.proofs.compare.lowest_shared.Statement.{statement}
+use Rattle.overlap.proofs.compare.lowest_shared.Tie as tie
 
 returns : tie.Need-returns
-unfolding shown spanLow ruleOf spanOf zipWith
+unfolding lowestShared spanLow ruleOf spanOf zipWith
 returns c = λ i.
     c .before .before .before .before .larger-value .ensures .0 i
     ∷ c .before .before .before .larger-value2 .ensures .0 i
@@ -17,8 +17,8 @@ returns c = λ i.
     ∷ c .larger-value5 .ensures .0 i
     ∷ []
 
-pub shown-header-spec : {M : Type 1} → statement M
-shown-header-spec =
+pub lowest-shared-spec : {M : Type 1} → statement M
+lowest-shared-spec =
     tie.close
     (tie.spec
     (λ c κs. search needs)
