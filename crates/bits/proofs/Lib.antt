@@ -8,3 +8,4 @@ pub mod SamePathLaws
 pub mod MaskLaws
 pub mod WordLaws
 pub mod WritingLaws
+pub mod MemberLaws

@@ -7,4 +7,5 @@ pub mod MatchLaws
 pub mod LookLaws
 pub mod TurnLaws
 pub mod LookedLaws
+pub mod AnsweredLaws
 pub mod Demand2

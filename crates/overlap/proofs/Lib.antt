@@ -11,3 +11,4 @@ pub mod LoopLaws
 pub mod InverseLaws
 pub mod ObstacleLaws
 pub mod PutLaws
+pub mod EntryLaws

@@ -14,7 +14,7 @@ use Rattle.bits.specs.Number.{Bytes}
 use Rattle.bits.specs.Path.{bits, prefix, leads, stray}
 use Rattle.bits.specs.Tests.{all}
 use Rattle.bits.proofs.TestLaws.{same-test, and-trues, or-trues}
-use Rattle.bits.proofs.EachLaws.{each-maps}
+use Rattle.bits.proofs.EachLaws.{each-maps, all-same}
 use Rattle.bits.proofs.PathLaws.{leads-number, leads-prefix}
 use Rattle.rules.specs.Field.{Field, fields, fieldAt, valueIn, lengthIn}
 use Rattle.rules.specs.Rule.{spanOf, ruleOf}
@@ -94,6 +94,10 @@ module _ {a b : List ℕ} {f : ℕ} (two : Beside a b f) where
   pub field-missed : lengthIn b (fieldAt f) < lengthIn a (fieldAt f) → spanCovers (spanIn a (fieldAt f)) (spanIn b (fieldAt f)) ≡ false
   field-missed = in-field (λ w v l x m. m < l → spanCovers (spanOf w v l) (spanOf w x m) ≡ false) long-misses two
 
+  field-covers : spanCovers (spanIn a (fieldAt f)) (spanIn b (fieldAt f))
+      ≡ leads (prefix (fieldAt f .width) (valueIn a (fieldAt f)) (lengthIn a (fieldAt f))) (prefix (fieldAt f .width) (valueIn b (fieldAt f)) (lengthIn b (fieldAt f)))
+  field-covers = in-field (λ w v l x m. spanCovers (spanOf w v l) (spanOf w x m) ≡ leads (prefix w v l) (prefix w x m)) covers-leads two
+
 -- the other way round, where the second prefix is the shorter
 pub field-long : {a b : List ℕ} {f : ℕ} → Beside a b f → lengthIn b (fieldAt f) < lengthIn a (fieldAt f)
     → spanShare (spanIn a (fieldAt f)) (spanIn b (fieldAt f)) ≡ leadsValue b a (fieldAt f)
@@ -113,6 +117,15 @@ pub fields-decide : (r : Relation) (a b : List ℕ) → rulesRelate r (ruleOf a)
 unfolding share covers ruleOf
 fields-decide Share a b = each-maps spanShare (spanIn a) (spanIn b) fields
 fields-decide Cover a b = each-maps spanCovers (spanIn a) (spanIn b) fields
+
+-- "One covers another when each of its prefixes is a leading part of the other's."
+pub covers-prefixes : (a b : List ℕ) → Bytes a → Bytes b → SoundRule a → SoundRule b → covers (ruleOf a) (ruleOf b)
+    ≡ all (λ (g : Field). leads (prefix (g .width) (valueIn a g) (lengthIn a g)) (prefix (g .width) (valueIn b g) (lengthIn b g))) fields
+covers-prefixes a b ba bb ra rb =
+    fields-decide Cover a b
+    ∙ all-same (λ (g : Field). spanCovers (spanIn a g) (spanIn b g))
+    (λ (g : Field). leads (prefix (g .width) (valueIn a g) (lengthIn a g)) (prefix (g .width) (valueIn b g) (lengthIn b g))) fields (fieldAt 5)
+    (λ f h. field-covers (record { first-bytes = ba; second-bytes = bb; first = ra; second = rb; inside = h }))
 
 -- ---- the record at a place of an accepted table
 

@@ -8,14 +8,16 @@ use Prim.Native.Nat.{ℕ, zero, suc, _+_, _*_, _<_}
 use native.Mathlib.Omega.{arith}
 use lib.ListN.{length, getD, take, drop, length-map, length-append}
 use lib.Seq.{ext-getD, take-at, take-add, take-length, drop-drop, drop-append-add}
+use Rattle.bits.specs.Number.{Bytes}
 use Rattle.bits.specs.Tests.{upFrom}
+use Rattle.bits.proofs.NumberLaws.{bytes-append}
 use Rattle.rules.specs.Rule.{ruleOf}
 use Rattle.rules.specs.Match.{noRule}
 use Rattle.rules.specs.Table.{recordSize, ruleCount, recordAt, rulesOf, fault, Accepted}
 use Rattle.rules.proofs.TableLaws.{length-record, accepted-sound, sound-accepted}
 use Rattle.overlap.specs.Order.{isOrder, oldPlace, moved, movedTable, inPlace, wayBack, andThen}
 use Rattle.bits.proofs.EachLaws.{getD-map, map-along}
-use Rattle.rules.proofs.MatchLaws.{rules-size, rules-at}
+use Rattle.rules.proofs.MatchLaws.{rules-size, rules-at, record-bytes}
 use Rattle.overlap.proofs.OrderLaws.{Order, order, way-order, then-back}
 use Rattle.overlap.proofs.MoveLaws.{moved-size, moved-at}
 
@@ -54,6 +56,11 @@ records-flat table k (suc n) =
     ∙ ap (λ (m : ℕ). take m a) s
 
 -- ---- the moved table
+
+pub moved-bytes : (table o : List ℕ) → Bytes table → Bytes (movedTable table o)
+unfolding movedTable flatten
+moved-bytes table [] b = λ k. omega arith
+moved-bytes table (place ∷ o) b = bytes-append (recordAt table place) (movedTable table o) (record-bytes table b place) (moved-bytes table o b)
 
 module _ (table o : List ℕ) (e : isOrder (ruleCount table) o ≡ true) where
   O : Order (ruleCount table) o

@@ -33,3 +33,10 @@ pub known : (d : Decoded) → isUnknown d ≡ false → (a : Action) × (d ≡ K
 unfolding isUnknown
 known (Known a) e = (a, refl)
 known Unknown e = absurd (true≢false e)
+
+pub known-one : {a b : Action} → Known a ≡ Known b → a ≡ b
+known-one {a} e = ap told e
+  where
+    told : Decoded → Action
+    told (Known x) = x
+    told Unknown = a

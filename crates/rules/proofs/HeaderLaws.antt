@@ -1,4 +1,4 @@
--- A header's bytes from its values; and two rules that share any values share a header of 13 bytes.
+-- A header's bytes from its values; two rules' lowest shared header in bytes; and two rules that share any values share a header of 13 bytes.
 -- Assumes nothing.
 use mathlib.Core.Path.{_≡_, refl, sym, ap, _∙_, subst}
 use mathlib.Core.Bool.{true}
@@ -66,7 +66,25 @@ module _ (h : Header) where
   header-values = λ i.
       number-bytes 3 (h .source) i ∷ number-bytes 3 (h .destination) i ∷ number-bytes 1 (h .sport) i ∷ number-bytes 1 (h .dport) i ∷ number-bytes 0 (h .protocol) i ∷ []
 
--- ---- two rules that share
+-- ---- two rules
+
+-- their lowest shared header, as its five values
+module _ (a b : List ℕ) where
+  abbrev larger : ℕ → ℕ
+  larger f = max (valueIn a (fieldAt f)) (valueIn b (fieldAt f))
+
+  abbrev pub lowest : Header
+  lowest = record { source = larger 0; destination = larger 1; sport = larger 2; dport = larger 3; protocol = larger 4 }
+
+  pub lowest-values : values lowest ≡ lowestShared (ruleOf a) (ruleOf b)
+  unfolding lowestShared spanLow spanOf ruleOf zipWith
+  lowest-values = refl
+
+-- and as its 13 bytes
+pub record Reads (values bytes : List ℕ) : Type 0 where
+  pub bytes-small : Bytes bytes
+  pub size : length bytes ≡ headerSize
+  pub read : headerValues bytes ≡ values
 
 -- a header of 13 bytes that matches both
 pub record Shared (a b : List ℕ) : Type 0 where
@@ -77,31 +95,25 @@ pub record Shared (a b : List ℕ) : Type 0 where
   pub second : matches (headerValues header) (ruleOf b) ≡ true
 
 module _ (a b : List ℕ) (ba : Bytes a) (bb : Bytes b) (ra : SoundRule a) (rb : SoundRule b) where
-  abbrev larger : ℕ → ℕ
-  larger f = max (valueIn a (fieldAt f)) (valueIn b (fieldAt f))
-
-  larger-small : (f : ℕ) → f < 5 → larger f < 2 ^ (fieldAt f .width)
+  larger-small : (f : ℕ) → f < 5 → larger a b f < 2 ^ (fieldAt f .width)
   larger-small f h = omega (arith, value-small a ba (omega (arith, ra .whole)) f h, value-small b bb (omega (arith, rb .whole)) f h)
 
-  abbrev lowest : Header
-  lowest = record { source = larger 0; destination = larger 1; sport = larger 2; dport = larger 3; protocol = larger 4 }
-
-  lowest-values : values lowest ≡ lowestShared (ruleOf a) (ruleOf b)
-  unfolding lowestShared spanLow spanOf ruleOf zipWith
-  lowest-values = refl
-
-  lowest-small : (f : ℕ) → f < 5 → getD (values lowest) f 0 < 2 ^ (fieldAt f .width)
+  lowest-small : (f : ℕ) → f < 5 → getD (values (lowest a b)) f 0 < 2 ^ (fieldAt f .width)
   unfolding upFrom
-  lowest-small f h = rw (getD-map larger (upFrom 0 5) f 0 0 h, up-at 0 5 f 0 h, zero-add f) (larger-small f h)
+  lowest-small f h = rw (getD-map (larger a b) (upFrom 0 5) f 0 0 h, up-at 0 5 f 0 h, zero-add f) (larger-small f h)
+
+  pub lowest-reads : Reads (lowestShared (ruleOf a) (ruleOf b)) (headerBytes (lowestShared (ruleOf a) (ruleOf b)))
+  lowest-reads =
+      subst (λ (vs : List ℕ). Reads vs (headerBytes vs)) (lowest-values a b)
+      (record { bytes-small = header-bytes (values (lowest a b)) lowest-small; size = header-size (lowest a b); read = header-values (lowest a b) })
 
   pub shared-header : share (ruleOf a) (ruleOf b) ≡ true → Shared a b
   shared-header e =
       let fits = lowest-shared-fits (ruleOf a) (ruleOf b) e in
-      let says : headerValues (headerBytes (values lowest)) ≡ lowestShared (ruleOf a) (ruleOf b) = header-values lowest ∙ lowest-values in
       record {
-        header = headerBytes (values lowest);
-        bytes = header-bytes (values lowest) lowest-small;
-        size = header-size lowest;
-        first = rw says (fits .0);
-        second = rw says (fits .1);
+        header = headerBytes (lowestShared (ruleOf a) (ruleOf b));
+        bytes = lowest-reads .bytes-small;
+        size = lowest-reads .size;
+        first = rw (lowest-reads .read) (fits .0);
+        second = rw (lowest-reads .read) (fits .1);
       }

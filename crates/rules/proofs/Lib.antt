@@ -1,6 +1,7 @@
 -- The laws of this crate's definitions, for its own proofs and for the crates above.
 pub mod FieldLaws
 pub mod TableLaws
+pub mod FaultLaws
 pub mod SaidLaws
 pub mod SpanLaws
 pub mod OverlapLaws

@@ -3,13 +3,13 @@
 use mathlib.Core.Path.{_≡_, ap, _∙_}
 use mathlib.Core.Bool.{Bool}
 use mathlib.Core.List.{List}
-use mathlib.Core.Option.{some}
+use mathlib.Core.Option.{none, some}
 use Prim.Native.Nat.{ℕ, _*_, _<_}
 use native.Mathlib.Omega.{arith}
 use lib.ListN.{length, length-map}
 use Rattle.bits.specs.Number.{Bytes}
 use Rattle.bits.specs.Tests.{all, upFrom}
-use Rattle.bits.proofs.TestLaws.{Lowest, Told, lowest-told, lowest-some}
+use Rattle.bits.proofs.TestLaws.{Lowest, Never, Told, lowest-told, lowest-none, lowest-some}
 use Rattle.bits.proofs.NumberLaws.{part-bytes}
 use Rattle.bits.proofs.EachLaws.{getD-map, up-size, up-at, each-places}
 use Rattle.rules.specs.Rule.{has, Rule, ruleOf}
@@ -56,3 +56,7 @@ module _ (rules : List Rule) (h : List ℕ) where
   pub first-match : (place : ℕ) → First place → firstMatch rules h ≡ some place
   unfolding firstMatch
   first-match place f = lowest-some hit (length rules) place f
+
+  pub no-match : Never hit (length rules) → firstMatch rules h ≡ none
+  unfolding firstMatch
+  no-match never = lowest-none hit (length rules) never

@@ -105,11 +105,11 @@ length-record table place h = rw (length-take, length-drop) (omega arith)
 
 -- ---- one rule more
 
-faulty-fault : (table : List ℕ) (place : ℕ) → faulty table place ≡ true → eqb (fault (recordAt table place)) 0 ≡ false
+pub faulty-fault : (table : List ℕ) (place : ℕ) → faulty table place ≡ true → eqb (fault (recordAt table place)) 0 ≡ false
 unfolding faulty
 faulty-fault table place e = not-true (eqb (fault (recordAt table place)) 0) e
 
-clean-fault : (table : List ℕ) (place : ℕ) → faulty table place ≡ false → eqb (fault (recordAt table place)) 0 ≡ true
+pub clean-fault : (table : List ℕ) (place : ℕ) → faulty table place ≡ false → eqb (fault (recordAt table place)) 0 ≡ true
 unfolding faulty
 clean-fault table place e = not-false (eqb (fault (recordAt table place)) 0) e
 
