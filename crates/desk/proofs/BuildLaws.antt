@@ -18,7 +18,7 @@ use Rattle.index.proofs.ImageLaws.{one-level-sized, length-image}
 use Rattle.desk.specs.declared.Built.the-variants.{Done, Refused}
 use Rattle.desk.specs.Lent.{roomSaid}
 use Rattle.desk.specs.BuildCall.{builtSaid, wordsNeeded, buildSaid, areaLeft, Builds}
-use Rattle.desk.proofs.LentLaws.{room-refused, room-short, room-done, done-accepted, done-written}
+use Rattle.desk.proofs.LentLaws.{room-value, room-refused, room-short, room-done, done-accepted, done-written}
 
 -- what an accepted table gives the index
 pub all-sound : (table : List ℕ) → Accepted table → AllSound table
@@ -52,7 +52,12 @@ module _ (table area : List ℕ) where
       let w = room-done table area written ShortArea 7 (wordsNeeded table) (wordsNeeded table) plain ok h in
       record { answer = w .0; lent = w .1 }
 
--- the other way round: after a build that is done the table is accepted, and the words needed are the image
+-- the other way round: a build that is done says how many words the index takes
+pub built-words : {table area after : List ℕ} {words : ℕ} → Builds table area (Done words) after → words ≡ wordsNeeded table
+unfolding builtSaid buildSaid
+built-words {table = table} {area = area} {words = words} b = room-value table area 6 (wordsNeeded table) (wordsNeeded table) words (sym (b .answer))
+
+-- after it the table is accepted, and the words needed are the image
 pub built-image : {table area after : List ℕ} {words : ℕ} → Builds table area (Done words) after
     → Accepted table × (take (wordsNeeded table) after ≡ image deskShape (rulesOf table))
 unfolding builtSaid buildSaid areaLeft

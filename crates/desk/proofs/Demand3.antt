@@ -1,87 +1,51 @@
--- After a move that is allowed, the output starts with the moved table, and every header gets the same action, or none, from an index of
--- either table.
+-- Demand 3 through the call: judge allows a move exactly when no two rules that clash change order, and then writes the moved table; leaving
+-- all in place is allowed, an allowed move can be undone, and two in a row are one.
 -- Assumes nothing.
-use mathlib.Core.Path.{_≡_, refl, sym, ap, _∙_}
-use mathlib.Core.Logic.{⊎-elim}
+use mathlib.Core.Path.{_≡_, refl, sym, ap, ap₂, subst, _∙_}
+use mathlib.Core.Logic.{_↔_, _⊎_, inl, inr, ⊎-elim}
 use mathlib.Core.Bool.{true, false}
 use mathlib.Core.List.{List, [], _∷_, _++_}
-use mathlib.Core.Option.{Option, none, some, Option·map}
-use Prim.Native.Nat.{ℕ, zero, suc}
+use mathlib.Core.Option.{Option, none, some}
+use Prim.Native.Nat.{ℕ, _≤_, _<_}
 use native.Mathlib.Omega.{arith}
 use lib.ListN.{length, getD, take, drop}
-use lib.Seq.{take-at}
-use Rattle.bits.specs.Number.{Bytes}
-use Rattle.bits.proofs.TestLaws.{decided}
-use Rattle.rules.specs.declared.Decoded.{Decoded}
-use Rattle.rules.specs.declared.Decoded.the-variants.{Known, Unknown}
-use Rattle.rules.specs.Refusal.{firstRefusal}
+use lib.Seq.{take-at, drop-at}
+use Rattle.bits.proofs.TestLaws.{decided, less}
+use Rattle.rules.specs.declared.Crossing.{Crossing}
+use Rattle.rules.specs.declared.Refusal.the-variants.{NotAllowed}
+use Rattle.rules.specs.Refusal.{firstRefusal, values}
 use Rattle.rules.specs.Rule.{Rule}
-use Rattle.rules.specs.Table.{ruleCount, rulesOf, verdict, Accepted}
-use Rattle.rules.specs.Header.{headerSize, headerValues}
-use Rattle.rules.specs.Match.{ruleAt, firstMatch, falseBlocks}
-use Rattle.rules.proofs.MatchLaws.{rules-size}
-use Rattle.lookup.specs.declared.Looked.{Looked}
-use Rattle.lookup.specs.Said.{actionValues, matchSaid, noMatchSaid}
-use Rattle.lookup.specs.Answer.{winnerSaid, rulesAnswer, answerSaid}
-use Rattle.lookup.specs.InCode.{lookedSaid}
+use Rattle.rules.specs.Match.{ruleAt}
+use Rattle.rules.specs.Overlap.{lowestShared}
+use Rattle.rules.specs.Table.{ruleCount, recordAt, rulesOf, verdict, Accepted}
+use Rattle.rules.proofs.MatchLaws.{rules-size, rules-at}
+use Rattle.rules.proofs.HeaderLaws.{lowest, lowest-values}
 use Rattle.overlap.specs.Pairs.{Pair}
-use Rattle.overlap.specs.Order.{isOrder, movedTable}
+use Rattle.overlap.specs.Order.{isOrder, newPlace, moved, movedTable, inPlace, wayBack, andThen}
 use Rattle.overlap.specs.Judge as judge
-use Rattle.overlap.proofs.MoveLaws.{move-same-answer}
-use Rattle.overlap.proofs.TableMoves.{moved-length, moved-rules, accepted-whole}
-use Rattle.desk.specs.declared.Built as built
+use Rattle.overlap.specs.Obstacle.{pairTold, foundTold, crossingTold}
+use Rattle.overlap.proofs.TriangleLaws.{pair}
+use Rattle.overlap.proofs.OrderLaws.{order-exact, order, way-order, place-order}
+use Rattle.overlap.proofs.JudgeLaws.{Kept, allowed-exact, crossing-exact}
+use Rattle.overlap.proofs.MoveLaws.{in-place-allowed, undo, compose}
+use Rattle.overlap.proofs.TableMoves.{moved-count, moved-length, moved-rules, moved-accepted, accepted-whole, bytes-in-place, bytes-undo, bytes-compose}
 use Rattle.desk.specs.declared.Judged as judged
-use Rattle.desk.specs.BuildCall.{Builds}
-use Rattle.desk.specs.LookCall.{Looks, actionPart}
+use Rattle.desk.specs.declared.Judged.the-variants.{Allowed}
 use Rattle.desk.specs.JudgeCall.{judgedSaid, orderSaid, outputSaid, crossingSaid, judgeSaid, judgeLeft, Judges}
-use Rattle.desk.proofs.LentLaws.{done-accepted, done-written}
-use Rattle.desk.proofs.Demand2.{build-lookup}
-
--- ---- the action of an answer
-
-told : Option Decoded → List ℕ
-told none = []
-told (some (Known a)) = actionValues a
-told (some Unknown) = []
-
-answer-action : (table header : List ℕ) → actionPart (answerSaid table header) ≡ told (judge.answerOf (rulesOf table) (headerValues header))
-unfolding actionPart answerSaid rulesAnswer judge.answerOf told
-answer-action table header = go (firstMatch (rulesOf table) (headerValues header))
-  where
-    known : (falses place : ℕ) (d : Decoded) → drop 4 (matchSaid falses place d) ≡ told (some d)
-    known falses place (Known a) = unfold matchSaid told in refl
-    known falses place Unknown = unfold matchSaid told in refl
-
-    go : (o : Option ℕ)
-        → drop 4 (winnerSaid (rulesOf table) (falseBlocks 32 8 (rulesOf table) (headerValues header)) o)
-        ≡ told (Option·map (λ place. ruleAt (rulesOf table) place .action) o)
-    go none = unfold winnerSaid noMatchSaid told in refl
-    go (some place) = unfold winnerSaid in known (falseBlocks 32 8 (rulesOf table) (headerValues header)) place (ruleAt (rulesOf table) place .action)
-
--- an allowed move changes no header's action, as demand 2's answer gives it
-pub same-action : (table order header : List ℕ) → isOrder (ruleCount table) order ≡ true → judge.Allowed (rulesOf table) order
-    → actionPart (answerSaid (movedTable table order) header) ≡ actionPart (answerSaid table header)
-same-action table order header ordered allowed =
-    let values = headerValues header in
-    answer-action (movedTable table order) header
-    ∙ ap (λ (rs : List Rule). told (judge.answerOf rs values)) (moved-rules table order ordered)
-    ∙ ap told (move-same-answer (rulesOf table) order (rw (rules-size table) ordered) allowed values)
-    ∙ sym (answer-action table header)
+use Rattle.desk.specs.Terms.{IsTable, IsOrder, NoneTurned}
+use Rattle.desk.proofs.TermLaws.{clash-at}
+use Rattle.desk.proofs.LentLaws.{first-last, done-accepted, done-written}
+use Rattle.desk.proofs.JudgeLaws.{judge-crossed, judge-allowed}
+use Rattle.desk.proofs.Determined.{judge-one}
 
 -- ---- what an allowed move was
 
--- a list of checks that is done: none refused, and the last one is done
-first-last : (a b vs : List ℕ) → firstRefusal a b ≡ 0 ∷ vs → b ≡ 0 ∷ vs
-unfolding firstRefusal
-first-last [] b vs e = e
-first-last (zero ∷ ws) b vs e = e
-first-last (suc n ∷ ws) b vs e = absurd (omega (arith, ap (λ (l : List ℕ). getD l 0 0) e))
-
-pub record Moved (table order after : List ℕ) : Type 0 where
+pub record Moved (table order output after : List ℕ) : Type 0 where
   pub accepted : Accepted table
   pub ordered : isOrder (ruleCount table) order ≡ true
   pub allowed : judge.Allowed (rulesOf table) order
   pub written : take (length table) after ≡ movedTable table order
+  pub beyond : drop (length table) after ≡ drop (length table) output
 
 module _ (table order output after : List ℕ) (j : Judges table order output judged.the-variants.Allowed after) where
   says : judgeSaid table order output ≡ 0 ∷ []
@@ -110,36 +74,133 @@ module _ (table order output after : List ℕ) (j : Judges table order output ju
   is-order : isOrder (ruleCount table) order ≡ true
   is-order = ⊎-elim (λ e. e) (λ e. absurd (not-eleven e)) (decided (isOrder (ruleCount table) order))
 
-  pub judged-moved : Moved table order after
+  pub judged-moved : Moved table order output after
   unfolding judgeSaid judgeLeft
   judged-moved =
       let ok = done-accepted table (firstRefusal (orderSaid table order) (firstRefusal (outputSaid table output) last)) [] says in
       let written = movedTable table order ++ drop (length table) output in
+      let size = moved-length table order is-order (accepted-whole table ok) in
       let left : after ≡ written = j .lent ∙ done-written (judgeSaid table order output) written output [] says in
       record {
         accepted = ok;
         ordered = is-order;
         allowed = no-crossing (judge.crossing (rulesOf table) order)
             (first-last (outputSaid table output) last [] (first-last (orderSaid table order) (firstRefusal (outputSaid table output) last) [] past-table));
-        written = ap (take (length table)) left
-            ∙ take-at (movedTable table order) (drop (length table) output) (length table) (moved-length table order is-order (accepted-whole table ok));
+        written = ap (take (length table)) left ∙ take-at (movedTable table order) (drop (length table) output) (length table) size;
+        beyond = ap (drop (length table)) left ∙ drop-at (movedTable table order) (drop (length table) output) (length table) size;
       }
 
--- ---- judge, build and lookup
+-- the output starts with the moved table, and what stands behind it stays
+pub judge-writes : {table order output after : List ℕ} → Judges table order output Allowed after
+    → (take (length table) after ≡ movedTable table order) × (drop (length table) after ≡ drop (length table) output)
+judge-writes {table} {order} {output} {after} j =
+    let m = judged-moved table order output after j in
+    (m .written, m .beyond)
 
--- a header looked up over an index of the moved table, as the output holds it, gets the action that it gets over an index of the first table
-module _ (table order output after : List ℕ) (j : Judges table order output judged.the-variants.Allowed after)
-    (header : List ℕ) (c : Bytes header) (right : length header ≡ headerSize) where
-  abbrev new : List ℕ
-  new = take (length table) after
+-- ---- what judge answers to an order, with room for the table
 
-  pub move-lookup : {old-area old-after new-area new-after : List ℕ} {old-words new-words : ℕ} {before now : Looked} → Bytes table → Bytes new
-      → Builds table old-area (built.the-variants.Done old-words) old-after → Looks table old-after header before
-      → Builds new new-area (built.the-variants.Done new-words) new-after → Looks new new-after header now
-      → actionPart (lookedSaid now) ≡ actionPart (lookedSaid before)
-  move-lookup b b′ old looked-old fresh looked-new =
-      let m = judged-moved table order output after j in
-      ap actionPart (build-lookup b′ c right fresh looked-new)
-      ∙ ap (λ (t : List ℕ). actionPart (answerSaid t header)) (m .written)
-      ∙ same-action table order header (m .ordered) (m .allowed)
-      ∙ sym (ap actionPart (build-lookup b c right old looked-old))
+module _ {table o output : List ℕ} (ok : Accepted table) (is-order : isOrder (ruleCount table) o ≡ true) (room : length table ≤ length output)
+    {r : judged.Judged} {after : List ℕ} (j : Judges table o output r after) where
+  allowed-judged : judge.Allowed (rulesOf table) o → r ≡ Allowed
+  unfolding foundTold
+  allowed-judged a = judge-one j (judge-allowed table o output ok is-order room (sym (ap (foundTold (rulesOf table)) a))) .0
+
+  -- the pair that stands in the way, with its lowest shared header
+  crossed-judged : (p : Pair) → judge.crossing (rulesOf table) o ≡ some p → (c : Crossing) × (r ≡ judged.the-variants.Refused (NotAllowed c))
+  unfolding crossingTold foundTold pairTold
+  crossed-judged p e =
+      let within = crossing-exact (rulesOf table) o p .0 e .within in
+      let a = rules-at table (p .lower) (omega (arith, within .rises, within .inside, rules-size table)) in
+      let b = rules-at table (p .higher) (omega (arith, within .inside, rules-size table)) in
+      let low = lowest (recordAt table (p .lower)) (recordAt table (p .higher)) in
+      let c : Crossing = record { lower = p .lower; higher = p .higher; header = low } in
+      let shown : values low ≡ lowestShared (ruleAt (rulesOf table) (p .lower)) (ruleAt (rulesOf table) (p .higher)) =
+      lowest-values (recordAt table (p .lower)) (recordAt table (p .higher)) ∙ sym (ap₂ lowestShared a b)
+      in
+      let told : crossingTold c ≡ foundTold (rulesOf table) (judge.crossing (rulesOf table) o) =
+      ap (λ (vs : List ℕ). p .lower ∷ p .higher ∷ vs) shown ∙ sym (ap (foundTold (rulesOf table)) e)
+      in
+      (c, judge-one j (judge-crossed table o output ok is-order room c told) .0)
+
+-- an order of the places is one that is not refused
+pub ordered : {table o : List ℕ} → IsOrder table o → isOrder (ruleCount table) o ≡ true
+ordered {table} {o} x = order-exact (ruleCount table) o .1 (x .size, record { small = x .below; differ = x .apart })
+
+-- two rules that clash keep their order: by places of the table, and by rules
+kept-turned : {table : List ℕ} → IsTable table → (o : List ℕ) → Kept (rulesOf table) o ↔ NoneTurned table o
+kept-turned {table} t o = (
+  λ kept i j h g turned.
+      let low : i < ruleCount table = omega arith in
+      omega (arith, turned .changes, kept (pair i j) (record { rises = h; inside = rw (rules-size table) g }) (clash-at t low g .0 (turned .clash))),
+  λ none-turned p w c.
+      let high : p .higher < ruleCount table = rw (← rules-size table) (w .inside) in
+      let low : p .lower < ruleCount table = omega (arith, w .rises) in
+      ⊎-elim
+      (λ (changes : newPlace o (p .higher) < newPlace o (p .lower)).
+      absurd (none-turned (p .lower) (p .higher) (w .rises) high (record { changes = changes; clash = clash-at t low high .1 c })))
+      (λ stays. stays)
+      (less (newPlace o (p .higher)) (newPlace o (p .lower))),
+)
+
+module _ {table o output after : List ℕ} {r : judged.Judged} (t : IsTable table) (is-order : IsOrder table o)
+    (room : length table ≤ length output) (j : Judges table o output r after) where
+  pub judge-exact : (r ≡ Allowed) ↔ NoneTurned table o
+  judge-exact = (
+    λ e. kept-turned t o .0 (allowed-exact (rulesOf table) o .0 (judged-moved table o output after (subst (λ (x : judged.Judged). Judges table o output x after) e j) .allowed)),
+    λ none-turned. allowed-judged (t .accepted) (ordered is-order) room j (allowed-exact (rulesOf table) o .1 (kept-turned t o .1 none-turned)),
+  )
+
+  pub judge-either : (r ≡ Allowed) ⊎ ((c : Crossing) × (r ≡ judged.the-variants.Refused (NotAllowed c)))
+  judge-either = go (judge.crossing (rulesOf table) o) refl
+    where
+      go : (q : Option Pair) → judge.crossing (rulesOf table) o ≡ q → (r ≡ Allowed) ⊎ ((c : Crossing) × (r ≡ judged.the-variants.Refused (NotAllowed c)))
+      go none e = inl (allowed-judged (t .accepted) (ordered is-order) room j e)
+      go (some p) e = inr (crossed-judged (t .accepted) (ordered is-order) room j p e)
+
+-- ---- in place, undone, and in a row
+
+-- an allowed order, judged, writes the moved table
+moves : {table o output after : List ℕ} {r : judged.Judged} → Accepted table → isOrder (ruleCount table) o ≡ true → length table ≤ length output
+    → judge.Allowed (rulesOf table) o → Judges table o output r after → (r ≡ Allowed) × (take (length table) after ≡ movedTable table o)
+moves {table} {o} {output} {after} {r} ok is-order room a j =
+    let e = allowed-judged ok is-order room j a in
+    (e, judged-moved table o output after (subst (λ (x : judged.Judged). Judges table o output x after) e j) .written)
+
+pub judge-in-place : {table output after : List ℕ} {r : judged.Judged} → IsTable table → length table ≤ length output
+    → Judges table (inPlace (ruleCount table)) output r after → (r ≡ Allowed) × (take (length table) after ≡ table)
+judge-in-place {table} t room j =
+    let a = subst (λ (n : ℕ). judge.Allowed (rulesOf table) (inPlace n)) (rules-size table) (in-place-allowed (rulesOf table) .1) in
+    let m = moves (t .accepted) (place-order (ruleCount table)) room a j in
+    (m .0, m .1 ∙ bytes-in-place table (accepted-whole table (t .accepted)))
+
+pub judge-undone : {table o output after other left : List ℕ} {r : judged.Judged} → Judges table o output Allowed after → length table ≤ length other
+    → Judges (take (length table) after) (wayBack (ruleCount table) o) other r left → (r ≡ Allowed) × (take (length table) left ≡ table)
+judge-undone {table} {o} {output} {after} {other} {left} {r} j room k =
+    let m = judged-moved table o output after j in
+    let n = ruleCount table in
+    let there = movedTable table o in
+    let size : length there ≡ length table = moved-length table o (m .ordered) (accepted-whole table (m .accepted)) in
+    let back = subst (λ (x : ℕ). judge.Allowed (moved (rulesOf table) o) (wayBack x o)) (rules-size table)
+    (undo (rulesOf table) o (rw (rules-size table) (m .ordered)) (m .allowed) .1)
+    in
+    let w = moves (moved-accepted table o (m .ordered) (m .accepted)) (rw (moved-count table o (m .ordered)) (way-order n o (order n o (m .ordered)))) (omega (arith, size))
+    (subst (λ (rs : List Rule). judge.Allowed rs (wayBack n o)) (sym (moved-rules table o (m .ordered))) back)
+    (subst (λ (x : List ℕ). Judges x (wayBack n o) other r left) (m .written) k)
+    in
+    (w .0, ap (λ (x : ℕ). take x left) (sym size) ∙ w .1 ∙ bytes-undo table o (accepted-whole table (m .accepted)) (m .ordered))
+
+pub judge-composed : {table o p output after output₂ after₂ output₃ after₃ : List ℕ} {r : judged.Judged} → Judges table o output Allowed after
+    → Judges (take (length table) after) p output₂ Allowed after₂ → length table ≤ length output₃
+    → Judges table (andThen o p) output₃ r after₃ → (r ≡ Allowed) × (take (length table) after₃ ≡ take (length table) after₂)
+judge-composed {table} {o} {p} {output} {after} {output₂} {after₂} j k room l =
+    let m = judged-moved table o output after j in
+    let there = movedTable table o in
+    let size : length there ≡ length table = moved-length table o (m .ordered) (accepted-whole table (m .accepted)) in
+    let n = judged-moved there p output₂ after₂ (subst (λ (x : List ℕ). Judges x p output₂ Allowed after₂) (m .written) k) in
+    let same = moved-rules table o (m .ordered) in
+    let c = compose (rulesOf table) o p (rw (rules-size table) (m .ordered)) (m .allowed)
+    (subst (λ (rs : List Rule). isOrder (length rs) p ≡ true) same (rw (rules-size there) (n .ordered)))
+    (subst (λ (rs : List Rule). judge.Allowed rs p) same (n .allowed))
+    in
+    let w = moves (m .accepted) (subst (λ (x : ℕ). isOrder x (andThen o p) ≡ true) (rules-size table) (c .0)) room (c .1) l in
+    (w .0, w .1 ∙ sym (bytes-compose table o p (m .ordered) (n .ordered)) ∙ sym (n .written) ∙ ap (λ (x : ℕ). take x after₂) size)

@@ -3,9 +3,11 @@
 -- Assumes nothing.
 use mathlib.Core.Path.{_≡_, sym, ap, _∙_}
 use mathlib.Core.Logic.{⊎-elim}
+use mathlib.Core.Bool.{Bool, true, false, cond}
 use mathlib.Core.List.{List, [], _∷_}
-use Prim.Native.Nat.{ℕ, suc, _≤_, _<_}
+use Prim.Native.Nat.{ℕ, zero, suc, _≤_, _<_}
 use native.Mathlib.Omega.{arith}
+use lib.Dec.{ltb}
 use lib.ListN.{length, getD}
 use borrow.Author.Tests.{lt-ltb, le-ltb}
 use Rattle.rules.specs.declared.Refusal.{Refusal}
@@ -47,7 +49,26 @@ module _ (table lent written : List ℕ) (short : Refusal) (number needed value 
         let e : says ≡ 0 ∷ value ∷ [] = says-room ∙ rw (le-ltb (length lent) needed h) in
         (sym e, sym (ap (λ (vs : List ℕ). lentAfter vs written lent) e))
 
--- the other way round: what is done had an accepted table, and what was to be written is left
+-- the other way round
+
+-- a list of checks that is done: none refused, and the last one is done
+pub first-last : (a b vs : List ℕ) → firstRefusal a b ≡ 0 ∷ vs → b ≡ 0 ∷ vs
+unfolding firstRefusal
+first-last [] b vs e = e
+first-last (zero ∷ ws) b vs e = e
+first-last (suc n ∷ ws) b vs e = absurd (omega (arith, ap (λ (l : List ℕ). getD l 0 0) e))
+
+-- what is done after the room was judged carries the value
+pub room-value : (table lent : List ℕ) (number needed value said : ℕ) → firstRefusal (verdict table) (roomSaid (suc number) needed lent value) ≡ 0 ∷ said ∷ [] → said ≡ value
+unfolding roomSaid
+room-value table lent number needed value said e =
+    go (ltb (length lent) needed) (first-last (verdict table) (roomSaid (suc number) needed lent value) (said ∷ []) e)
+  where
+    go : (short : Bool) → cond short (suc number ∷ []) (0 ∷ value ∷ []) ≡ 0 ∷ said ∷ [] → said ≡ value
+    go true q = absurd (omega (arith, ap (λ (l : List ℕ). getD l 0 0) q))
+    go false q = sym (ap (λ (l : List ℕ). getD l 1 0) q)
+
+-- what is done had an accepted table, and what was to be written is left
 pub done-accepted : (table rest vs : List ℕ) → firstRefusal (verdict table) rest ≡ 0 ∷ vs → Accepted table
 unfolding firstRefusal
 done-accepted table rest vs e =

@@ -1,9 +1,15 @@
 -- The promises of the desk, proved.
+pub mod TermLaws
 pub mod LentLaws
 pub mod BuildLaws
 pub mod PairsLaws
 pub mod JudgeLaws
 pub mod Determined
+pub mod Demand1
 pub mod Demand2
+pub mod ListedPairs
 pub mod Demand3
+pub mod MovedAnswers
+pub mod ShownHeader
+pub mod Promises
 pub mod WorkedOut

@@ -6,3 +6,5 @@ pub mod LookCall
 pub mod PairsCall
 pub mod JudgeCall
 pub mod Worked
+pub mod Terms
+pub mod Promises

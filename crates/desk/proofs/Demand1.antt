@@ -1,0 +1,188 @@
+-- Demand 1 through the calls: a refusal leaves what was lent as it was; an action that is not known is refusal 5 with its place, is never
+-- part of anything that is done, and is never answered.
+-- Assumes nothing.
+use mathlib.Core.Path.{_≡_, refl, sym, ap, subst, _∙_}
+use mathlib.Core.Logic.{_↔_}
+use mathlib.Core.Bool.{Bool, true, false, cond, true≢false}
+use mathlib.Core.List.{List, [], _∷_}
+use mathlib.Core.Option.{Option, none, some}
+use Prim.Native.Nat.{ℕ, zero, suc, _<_}
+use native.Mathlib.Omega.{arith}
+use lib.Dec.{ltb}
+use lib.ListN.{length, getD}
+use Rattle.rules.specs.declared.Action.{Action}
+use Rattle.rules.specs.declared.Refusal.{Refusal}
+use Rattle.rules.specs.declared.Refusal.the-variants.{UnknownAction}
+use Rattle.rules.specs.declared.Decoded.the-variants.{Known, Unknown}
+use Rattle.rules.specs.Action.{actionIn, isUnknown}
+use Rattle.rules.specs.Refusal.{said, firstRefusal}
+use Rattle.rules.specs.Rule.{Rule}
+use Rattle.rules.specs.Table.{ruleCount, recordAt, rulesOf, verdict, Accepted}
+use Rattle.rules.proofs.TableLaws.{accepted-sound, never-unknown}
+use Rattle.rules.proofs.FaultLaws.{FaultAt, verdict-fault, unknown-exact, fifth-unknown}
+use Rattle.overlap.specs.Pairs.{Pair}
+use Rattle.overlap.specs.Order.{isOrder}
+use Rattle.overlap.specs.Judge.{crossing}
+use Rattle.lookup.specs.declared.Looked.{Looked}
+use Rattle.lookup.proofs.AnsweredLaws.{look-carries}
+use Rattle.desk.specs.declared.Built as built
+use Rattle.desk.specs.declared.Paired as paired
+use Rattle.desk.specs.declared.Judged as judged
+use Rattle.desk.specs.Lent.{roomSaid}
+use Rattle.desk.specs.BuildCall.{builtSaid, wordsNeeded, buildSaid, areaLeft, Builds}
+use Rattle.desk.specs.LookCall.{Looks}
+use Rattle.desk.specs.PairsCall.{pairedSaid, pairCount, pairsSaid, pairsLeft, Pairs}
+use Rattle.desk.specs.JudgeCall.{judgedSaid, orderSaid, outputSaid, crossingSaid, judgeSaid, judgeLeft, Judges}
+use Rattle.desk.specs.Terms.{NoAction, UnknownAt, Matched}
+use Rattle.desk.proofs.LentLaws.{lent-refused, done-accepted}
+use Rattle.desk.proofs.BuildLaws.{build-refused}
+use Rattle.desk.proofs.PairsLaws.{pairs-refused}
+use Rattle.desk.proofs.JudgeLaws.{judge-refused}
+use Rattle.desk.proofs.Determined.{build-one, pairs-one, judge-one}
+
+-- ---- what was lent
+
+pub build-untouched : {table area after : List ℕ} {why : Refusal} → Builds table area (built.the-variants.Refused why) after → after ≡ area
+unfolding builtSaid areaLeft
+build-untouched {table} {area} {after} {why} b = b .lent ∙ sym (lent-refused why (buildSaid table area) _ area (sym (b .answer)) .1)
+
+pub pairs-untouched : {table list after : List ℕ} {why : Refusal} → Pairs table list (paired.the-variants.Refused why) after → after ≡ list
+unfolding pairedSaid pairsLeft
+pairs-untouched {table} {list} {after} {why} p = p .lent ∙ sym (lent-refused why (pairsSaid table list) _ list (sym (p .answer)) .1)
+
+pub judge-untouched : {table order output after : List ℕ} {why : Refusal} → Judges table order output (judged.the-variants.Refused why) after → after ≡ output
+unfolding judgedSaid judgeLeft
+judge-untouched {table} {order} {output} {after} {why} j = j .lent ∙ sym (lent-refused why (judgeSaid table order output) _ output (sym (j .answer)) .1)
+
+-- ---- refusal 5
+
+-- a number that is not the first of what is said
+abbrev Never : ℕ → List ℕ → Type 0
+Never n says = getD says 0 0 ≡ n → ⊥
+
+first-never : (n : ℕ) (a b : List ℕ) → Never n a → Never n b → Never n (firstRefusal a b)
+unfolding firstRefusal
+first-never n [] b p q = q
+first-never n (zero ∷ vs) b p q = q
+first-never n (suc m ∷ vs) b p q = p
+
+room-never : (short needed : ℕ) (lent : List ℕ) (value : ℕ) → (short ≡ 5 → ⊥) → Never 5 (roomSaid short needed lent value)
+unfolding roomSaid
+room-never short needed lent value apart = go (ltb (length lent) needed)
+  where
+    go : (b : Bool) → Never 5 (cond b (short ∷ []) (0 ∷ value ∷ []))
+    go true e = apart e
+    go false e = omega arith
+
+order-never : (table order : List ℕ) → Never 5 (orderSaid table order)
+unfolding orderSaid
+order-never table order = go (isOrder (ruleCount table) order)
+  where
+    go : (b : Bool) → Never 5 (cond b (0 ∷ []) (11 ∷ []))
+    go true e = omega arith
+    go false e = omega arith
+
+output-never : (table output : List ℕ) → Never 5 (outputSaid table output)
+unfolding outputSaid
+output-never table output = go (ltb (length output) (length table))
+  where
+    go : (b : Bool) → Never 5 (cond b (12 ∷ []) (0 ∷ []))
+    go true e = omega arith
+    go false e = omega arith
+
+crossing-never : (rules : List Rule) (o : Option Pair) → Never 5 (crossingSaid rules o)
+unfolding crossingSaid
+crossing-never rules none e = omega arith
+crossing-never rules (some p) e = omega arith
+
+-- where nothing after the verdict says 5, it is the verdict's
+module _ (table : List ℕ) (place : ℕ) where
+  first-verdict : (v rest : List ℕ) → Never 5 rest → firstRefusal v rest ≡ 5 ∷ place ∷ [] → v ≡ 5 ∷ place ∷ []
+  unfolding firstRefusal
+  first-verdict [] rest never e = absurd (never (ap (λ (l : List ℕ). getD l 0 0) e))
+  first-verdict (zero ∷ vs) rest never e = absurd (never (ap (λ (l : List ℕ). getD l 0 0) e))
+  first-verdict (suc n ∷ vs) rest never e = e
+
+  unknown-at : (rest : List ℕ) → Never 5 rest → firstRefusal (verdict table) rest ≡ said (UnknownAction place) → UnknownAt table place
+  unfolding said actionIn
+  unknown-at rest never e =
+      let f = verdict-fault table 4 place .0 (first-verdict (verdict table) rest never e) in
+      record {
+        whole = f .whole;
+        few = f .few;
+        inside = f .inside;
+        lowest = f .earlier;
+        fifth = f .first;
+        unknown = unknown-exact _ _ .0 (fifth-unknown (recordAt table place) (f .first));
+      }
+
+  at-unknown : UnknownAt table place → said (UnknownAction place) ≡ verdict table
+  unfolding said
+  at-unknown u = sym (verdict-fault table 4 place .1 (record { whole = u .whole; few = u .few; inside = u .inside; earlier = u .lowest; first = u .fifth }))
+
+pub build-unknown : {table area after : List ℕ} {r : built.Built} → Builds table area r after
+    → (place : ℕ) → (r ≡ built.the-variants.Refused (UnknownAction place)) ↔ UnknownAt table place
+unfolding builtSaid buildSaid
+build-unknown {table} {area} b place = (
+  λ e. unknown-at table place (roomSaid 7 (wordsNeeded table) area (wordsNeeded table))
+      (room-never 7 (wordsNeeded table) area (wordsNeeded table) (λ q. omega arith)) (sym (b .answer) ∙ ap builtSaid e),
+  λ u. build-one b (build-refused table area (UnknownAction place) (at-unknown table place u)) .0,
+)
+
+pub pairs-unknown : {table list after : List ℕ} {r : paired.Paired} → Pairs table list r after
+    → (place : ℕ) → (r ≡ paired.the-variants.Refused (UnknownAction place)) ↔ UnknownAt table place
+unfolding pairedSaid pairsSaid
+pairs-unknown {table} {list} p place = (
+  λ e. unknown-at table place _ (room-never 10 _ list (pairCount table) (λ q. omega arith)) (sym (p .answer) ∙ ap pairedSaid e),
+  λ u. pairs-one p (pairs-refused table list (UnknownAction place) (at-unknown table place u)) .0,
+)
+
+pub judge-unknown : {table order output after : List ℕ} {r : judged.Judged} → Judges table order output r after
+    → (place : ℕ) → (r ≡ judged.the-variants.Refused (UnknownAction place)) ↔ UnknownAt table place
+unfolding judgedSaid judgeSaid
+judge-unknown {table} {order} {output} j place =
+    let last = crossingSaid (rulesOf table) (crossing (rulesOf table) order) in
+    let later = firstRefusal (outputSaid table output) last in (
+      λ e. unknown-at table place (firstRefusal (orderSaid table order) later)
+          (first-never 5 (orderSaid table order) later (order-never table order)
+          (first-never 5 (outputSaid table output) last (output-never table output) (crossing-never (rulesOf table) (crossing (rulesOf table) order))))
+          (sym (j .answer) ∙ ap judgedSaid e),
+      λ u. judge-one j (judge-refused table order output (UnknownAction place) (at-unknown table place u)) .0,
+    )
+
+-- ---- nothing is done with an action that is not known
+
+unknown-not-accepted : (table : List ℕ) (place : ℕ) → place < ruleCount table → NoAction (recordAt table place) → Accepted table → ⊥
+unfolding actionIn
+unknown-not-accepted table place inside no-action ok =
+    never-unknown (recordAt table place) (accepted-sound table ok .faultless place inside) (unknown-exact _ _ .1 no-action)
+
+pub unknown-not-built : {table area after : List ℕ} {words place : ℕ} → place < ruleCount table → NoAction (recordAt table place)
+    → Builds table area (built.the-variants.Done words) after → ⊥
+unfolding builtSaid buildSaid
+unknown-not-built {table} {place = place} inside no-action b =
+    unknown-not-accepted table place inside no-action (done-accepted table _ _ (sym (b .answer)))
+
+pub unknown-not-listed : {table list after : List ℕ} {count place : ℕ} → place < ruleCount table → NoAction (recordAt table place)
+    → Pairs table list (paired.the-variants.Listed count) after → ⊥
+unfolding pairedSaid pairsSaid
+unknown-not-listed {table} {place = place} inside no-action p =
+    unknown-not-accepted table place inside no-action (done-accepted table _ _ (sym (p .answer)))
+
+pub unknown-not-moved : {table order output after : List ℕ} {place : ℕ} → place < ruleCount table → NoAction (recordAt table place)
+    → Judges table order output judged.the-variants.Allowed after → ⊥
+unfolding judgedSaid judgeSaid
+unknown-not-moved {table} {place = place} inside no-action j =
+    unknown-not-accepted table place inside no-action (done-accepted table _ _ (sym (j .answer)))
+
+pub answered-action : {table area header : List ℕ} {r : Looked} {place : ℕ} {action : Action} → Looks table area header r → Matched r place action
+    → (place < ruleCount table) × (actionIn (recordAt table place) ≡ Known action)
+answered-action {table} {area} {header} {r} {place} {action} l m =
+    look-carries table (m .0) place action area header (subst (λ (x : Looked). Looks table area header x) (m .1) l .answer)
+
+pub unknown-not-answered : {table area header : List ℕ} {r : Looked} {place : ℕ} {action : Action} → NoAction (recordAt table place)
+    → Looks table area header r → Matched r place action → ⊥
+unfolding actionIn isUnknown
+unknown-not-answered {table} {place = place} no-action l m =
+    let carries = answered-action l m .1 in
+    true≢false (sym (ap isUnknown (unknown-exact _ _ .1 no-action)) ∙ ap isUnknown carries)

@@ -1,0 +1,54 @@
+-- The page of promises, proved: each sentence of specs/Promises.antt under its own name.
+-- Assumes nothing.
+use Rattle.desk.specs.Promises as page
+use Rattle.desk.proofs.Determined.{build-one, lookup-one, pairs-one, judge-one, show-one}
+use Rattle.desk.proofs.Demand1 as one
+use Rattle.desk.proofs.Demand2 as two
+use Rattle.desk.proofs.ListedPairs as pairs
+use Rattle.desk.proofs.Demand3 as three
+use Rattle.desk.proofs.MovedAnswers.{moved-same-action, moved-same-none}
+use Rattle.desk.proofs.ShownHeader.{judge-shows}
+
+pub demand-1 : page.Demand1
+demand-1 = record {
+  build-one = build-one;
+  lookup-one = lookup-one;
+  pairs-one = pairs-one;
+  judge-one = judge-one;
+  show-one = show-one;
+  build-unknown = one.build-unknown;
+  pairs-unknown = one.pairs-unknown;
+  judge-unknown = one.judge-unknown;
+  unknown-not-built = one.unknown-not-built;
+  unknown-not-listed = one.unknown-not-listed;
+  unknown-not-moved = one.unknown-not-moved;
+  unknown-not-answered = one.unknown-not-answered;
+  answered-action = one.answered-action;
+  unmatched-no-action = λ t x h l. two.unmatched-no-action t x h l;
+  build-untouched = one.build-untouched;
+  pairs-untouched = one.pairs-untouched;
+  judge-untouched = one.judge-untouched;
+}
+
+pub demand-2 : page.Demand2
+demand-2 = record {
+  lookup-match = two.lookup-match;
+  lookup-none = two.lookup-none;
+  pairs-exact = λ t p. pairs.pairs-exact p t;
+  pairs-in-order = pairs.pairs-in-order;
+  pairs-beyond = pairs.pairs-beyond;
+  lookup-done = two.lookup-done;
+}
+
+pub demand-3 : page.Demand3
+demand-3 = record {
+  judge-exact = three.judge-exact;
+  judge-either = three.judge-either;
+  judge-writes = three.judge-writes;
+  moved-same-action = moved-same-action;
+  moved-same-none = moved-same-none;
+  judge-shows = judge-shows;
+  judge-in-place = three.judge-in-place;
+  judge-undone = three.judge-undone;
+  judge-composed = three.judge-composed;
+}

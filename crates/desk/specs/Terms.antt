@@ -1,0 +1,155 @@
+-- The words of the three demands, said of bytes and of what the calls answer. The page of promises, Promises.antt, is written in them.
+-- Assumes nothing.
+use mathlib.Core.Path.{_≡_}
+use mathlib.Core.Logic.{_⊎_}
+use mathlib.Core.Bool.{true}
+use mathlib.Core.List.{List, _++_}
+use Prim.Native.Nat.{ℕ, _%_, _≤_, _<_}
+use lib.Dec.{leb}
+use lib.ListN.{length, getD, take}
+use Rattle.bits.specs.Number.{Bytes}
+use Rattle.bits.specs.Path.{Path, bits, prefix, leads}
+use Rattle.bits.specs.Tests.{all, each}
+use Rattle.rules.specs.declared.Action.{Action}
+use Rattle.rules.specs.declared.Decoded.the-variants.{Known}
+use Rattle.rules.specs.Field.{Field, fields, valueIn, lengthIn}
+use Rattle.rules.specs.Action.{actionIn}
+use Rattle.rules.specs.Header.{headerSize, headerValues}
+use Rattle.rules.specs.Table.{recordSize, mostRules, ruleCount, recordAt, fault, Accepted}
+use Rattle.overlap.specs.Order.{oldPlace, newPlace}
+use Rattle.lookup.specs.declared.Looked.{Looked}
+use Rattle.lookup.specs.declared.Looked.the-variants.{Found}
+use Rattle.lookup.specs.declared.Outcome.the-variants.{NoMatch, Match}
+use Rattle.desk.specs.declared.Built.the-variants.{Done}
+use Rattle.desk.specs.BuildCall.{Builds}
+use Rattle.desk.specs.LookCall.{Looks}
+
+-- ---- headers and rules
+
+-- "A packet header is 13 bytes"
+pub record IsHeader (header : List ℕ) : Type 0 where
+  pub bytes : Bytes header
+  pub size : length header ≡ headerSize
+
+-- an accepted table: bytes that neither 1 nor 2 nor the fault of a rule refuses
+pub record IsTable (table : List ℕ) : Type 0 where
+  pub bytes : Bytes table
+  pub accepted : Accepted table
+
+-- a rule's prefix in a field
+abbrev pub prefixIn : List ℕ → Field → Path
+prefixIn rule f = prefix (f .width) (valueIn rule f) (lengthIn rule f)
+
+-- "A rule matches when each of its five prefixes is a leading part of the header's value."
+abbrev pub Fits : List ℕ → List ℕ → Type 0
+Fits header rule = all (λ (f : Field). leads (prefixIn rule f) (bits (f .width) (valueIn header f))) fields ≡ true
+
+-- no rule of the table does
+abbrev pub NoneFits : List ℕ → List ℕ → Type 0
+NoneFits header table = (place : ℕ) → place < ruleCount table → Fits header (recordAt table place) → ⊥
+
+-- the rule at a place matches, carries the action, and no lower one matches: "the lowest place wins"
+pub record Wins (table header : List ℕ) (place : ℕ) (action : Action) : Type 0 where
+  pub inside : place < ruleCount table
+  pub fits : Fits header (recordAt table place)
+  pub carries : actionIn (recordAt table place) ≡ Known action
+  pub lowest : (lower : ℕ) → lower < place → Fits header (recordAt table lower) → ⊥
+
+-- ---- two rules
+
+-- some header of 13 bytes fits both
+pub record Share (a b : List ℕ) : Type 0 where
+  pub header : List ℕ
+  pub is : IsHeader header
+  pub first : Fits header a
+  pub second : Fits header b
+
+-- "One covers another when each of its prefixes is a leading part of the other's."
+abbrev pub Covers : List ℕ → List ℕ → Type 0
+Covers a b = all (λ (f : Field). leads (prefixIn a f) (prefixIn b f)) fields ≡ true
+
+-- "shares a header and neither covers the other, whatever the actions"
+pub record CutsAcross (a b : List ℕ) : Type 0 where
+  pub share : Share a b
+  pub not-over : Covers a b → ⊥
+  pub not-under : Covers b a → ⊥
+
+-- "shares a header and differs in action"
+pub record Clash (a b : List ℕ) : Type 0 where
+  pub share : Share a b
+  pub differ : actionIn a ≡ actionIn b → ⊥
+
+-- ---- orders
+
+-- an "order of its places": as many entries as rules, none too large, none repeated
+pub record IsOrder (table order : List ℕ) : Type 0 where
+  pub size : length order ≡ ruleCount table
+  pub below : (k : ℕ) → k < ruleCount table → oldPlace order k < ruleCount table
+  pub apart : (k l : ℕ) → k < l → l < ruleCount table → oldPlace order k ≡ oldPlace order l → ⊥
+
+-- the rules at places i and j, in this order, "change order" and clash
+pub record Turned (table order : List ℕ) (i j : ℕ) : Type 0 where
+  pub changes : newPlace order j < newPlace order i
+  pub clash : Clash (recordAt table i) (recordAt table j)
+
+-- "no two rules that share a header and differ in action change order"
+abbrev pub NoneTurned : List ℕ → List ℕ → Type 0
+NoneTurned table order = (i j : ℕ) → i < j → j < ruleCount table → Turned table order i j → ⊥
+
+-- ---- actions that are not known
+
+-- 5: "unknown kind, or hold with a feed other than 0"
+abbrev pub NoAction : List ℕ → Type 0
+NoAction rule = (1 < getD rule 18 0) ⊎ ((getD rule 18 0 ≡ 0) × (getD rule 19 0 ≡ 0 → ⊥))
+
+-- a table of whole records, not too many, whose lowest place with a fault is this one, and the first test that fails there is 5
+pub record UnknownAt (table : List ℕ) (place : ℕ) : Type 0 where
+  pub whole : length table % recordSize ≡ 0
+  pub few : ruleCount table ≤ mostRules
+  pub inside : place < ruleCount table
+  pub lowest : (lower : ℕ) → lower < place → fault (recordAt table lower) ≡ 0
+  pub fifth : fault (recordAt table place) ≡ 5
+  pub unknown : NoAction (recordAt table place)
+
+-- ---- the index, and what lookup answers
+
+-- "an index built from it and unchanged since": the words that it takes are as `build` left them, and any may stand behind them
+pub record IsIndex (table area : List ℕ) : Type 0 where
+  pub lent : List ℕ
+  pub left : List ℕ
+  pub words : ℕ
+  pub built : Builds table lent (Done words) left
+  pub unchanged : take words area ≡ take words left
+
+-- a match at a place with an action
+abbrev pub Matched : Looked → ℕ → Action → Type 0
+Matched r place action = (falses : ℕ) × (r ≡ Found (record { falses = falses; outcome = Match place action }))
+
+-- a match with an action, at any place
+abbrev pub Gets : Looked → Action → Type 0
+Gets r action = (place : ℕ) × Matched r place action
+
+-- no match
+abbrev pub Unmatched : Looked → Type 0
+Unmatched r = (falses : ℕ) × (r ≡ Found (record { falses = falses; outcome = NoMatch }))
+
+-- ---- what refusal 13 shows
+
+-- two rules alone answer a header differently in their two orders: over indexes of the two tables that these two records make
+pub record Differ (a b header : List ℕ) : Type 0 where
+  pub apart : {there back : List ℕ} {first second : Looked} → IsIndex (a ++ b) there → Looks (a ++ b) there header first
+      → IsIndex (b ++ a) back → Looks (b ++ a) back header second → (x y : Action) × Gets first x × Gets second y × (x ≡ y → ⊥)
+
+-- "the first pair by old places (lower, then higher) that changes order, shares a header and differs in action, and their lowest shared
+-- header"
+pub record ShownBy (table order : List ℕ) (lower higher : ℕ) (header : List ℕ) : Type 0 where
+  pub rises : lower < higher
+  pub inside : higher < ruleCount table
+  pub turned : Turned table order lower higher
+  pub first : (i j : ℕ) → i < j → j < ruleCount table → (i < lower) ⊎ ((i ≡ lower) × (j < higher)) → Turned table order i j → ⊥
+  pub is : IsHeader header
+  pub fits-lower : Fits header (recordAt table lower)
+  pub fits-higher : Fits header (recordAt table higher)
+  pub lowest : (other : List ℕ) → IsHeader other → Fits other (recordAt table lower) → Fits other (recordAt table higher)
+      → each leb (headerValues header) (headerValues other) ≡ true
+  pub differ : Differ (recordAt table lower) (recordAt table higher) header
