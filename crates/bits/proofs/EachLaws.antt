@@ -108,6 +108,10 @@ up-at k zero i d h = absurd (omega arith)
 up-at k (suc n) zero d h = omega arith
 up-at k (suc n) (suc i) d h = omega (arith, up-at (suc k) n i d (le-of-suc-le-suc h))
 
+-- what stands at place k of a rule's list is the rule at k
+pub tabled : {A : Type 0} (f : ℕ → A) (n k : ℕ) (d : A) → k < n → getD (map f (upFrom 0 n)) k d ≡ f k
+tabled f n k d h = getD-map f (upFrom 0 n) k d 0 (rw (up-size 0 n) h) ∙ ap f (up-at 0 n k 0 h ∙ zero-add k)
+
 -- where some element passes, one passes at a place
 pub some-at : {A : Type 0} (test : A → Bool) (l : List A) (d : A) → any test l ≡ true → (k : ℕ) × (k < length l) × (test (getD l k d) ≡ true)
 unfolding any
@@ -153,10 +157,6 @@ each-places p (x ∷ xs) (y ∷ ys) d e h =
 -- a list is what stands at its places
 pub listed : {A : Type 0} (l : List A) (d : A) → map (λ k. getD l k d) (upFrom 0 (length l)) ≡ l
 listed l d =
-    let places = map (λ k. getD l k d) (upFrom 0 (length l)) in
-    let size : length places ≡ length l = length-map (upFrom 0 (length l)) (λ k. getD l k d) ∙ up-size 0 (length l) in
-    ext-getD d places l size
-    (λ i h.
-    let small : i < length l = omega (arith, size) in
-    getD-map (λ k. getD l k d) (upFrom 0 (length l)) i d 0 (omega (arith, up-size 0 (length l)))
-    ∙ ap (λ (k : ℕ). getD l k d) (up-at 0 (length l) i 0 small ∙ zero-add i))
+    let n = length l in
+    let size = length-map (upFrom 0 n) (λ k. getD l k d) ∙ up-size 0 n in
+    ext-getD d (map (λ k. getD l k d) (upFrom 0 n)) l size (λ i h. tabled (λ k. getD l k d) n i d (omega (arith, size)))

@@ -2,10 +2,14 @@
 pub mod TestLaws
 pub mod ListLaws
 pub mod EachLaws
+pub mod RowLaws
+pub mod ApartLaws
 pub mod NumberLaws
 pub mod PathLaws
 pub mod SamePathLaws
 pub mod MaskLaws
 pub mod WordLaws
+pub mod WordSetLaws
+pub mod PackLaws
 pub mod WritingLaws
 pub mod MemberLaws

@@ -1,12 +1,15 @@
--- Laws of lists: a test over a list that was joined, mapped or split by another test, a function over a part of a list, and how a list ends.
+-- Laws of lists: a test over a list that was joined, mapped or split by another test, a function over a part of a list, how a list ends, and
+-- its part from a start to its end.
 -- Assumes nothing.
 use mathlib.Core.Path.{_≡_, refl, sym, ap, ap₂, _∙_, fun-ext}
 use mathlib.Core.Logic.{_⊎_, inl, inr, ⊎-elim}
 use mathlib.Core.Bool.{Bool, true, false, _&&_, _||_, or-true, or-assoc}
-use mathlib.Core.List.{List, [], _∷_, _++_, map, flatten, append-assoc, head-eq-of-cons-eq, tail-eq-of-cons-eq, concat-ne-nil}
-use Prim.Native.Nat.{ℕ, zero, suc}
+use mathlib.Core.List.{List, [], _∷_, _++_, map, flatten, append-assoc, head-eq-of-cons-eq, tail-eq-of-cons-eq, concat-ne-nil, concat-eq-append, eq-nil-or-concat}
+use Prim.Native.Nat.{ℕ, zero, suc, _-_}
+use native.Mathlib.Omega.{arith}
 use lib.Dec.{eqb}
-use lib.ListN.{take, drop}
+use lib.ListN.{length, take, drop, length-drop, drop-of-length-le}
+use lib.Seq.{take-all}
 use borrow.Author.Tests.{eqb-true, eqb-false}
 use Rattle.bits.specs.Tests.{any, all}
 use Rattle.bits.proofs.TestLaws.{decided, or-falses}
@@ -117,12 +120,7 @@ map-map {C} g h (x ∷ l) = ap (λ (m : List C). h (g x) ∷ m) (map-map g h l)
 module _ {A : Type 0} where
   -- a list is empty, or ends in an element
   pub ending : (l : List A) → (l ≡ []) ⊎ ((q : List A) × (b : A) × (l ≡ q ++ (b ∷ [])))
-  ending [] = inl refl
-  ending (a ∷ l) = more (ending l)
-    where
-      more : (l ≡ []) ⊎ ((q : List A) × (b : A) × (l ≡ q ++ (b ∷ []))) → (a ∷ l ≡ []) ⊎ ((q : List A) × (b : A) × (a ∷ l ≡ q ++ (b ∷ [])))
-      more (inl e) = inr ([], a, ap (λ (m : List A). a ∷ m) e)
-      more (inr s) = inr (a ∷ s .0, s .1, ap (λ (m : List A). a ∷ m) (s .2))
+  ending l = ⊎-elim inl (λ s. inr (s .0, s .1, s .2 ∙ concat-eq-append (s .0) (s .1))) (eq-nil-or-concat l)
 
   -- equal lists end alike
   pub snoc-same : (q r : List A) (b c : A) → q ++ (b ∷ []) ≡ r ++ (c ∷ []) → (q ≡ r) × (b ≡ c)
@@ -132,3 +130,12 @@ module _ {A : Type 0} where
   snoc-same (a ∷ q) (x ∷ r) b c e =
       let s = snoc-same q r b c (tail-eq-of-cons-eq e) in
       (ap₂ (λ (y : A) (m : List A). y ∷ m) (head-eq-of-cons-eq e) (s .0), s .1)
+
+-- ---- the part from a start to the end: what is lent, and what lies after it
+
+module _ {A : Type 0} (a : ℕ) (l : List A) where
+  pub part-from : take (length l - a) (drop a l) ≡ drop a l
+  part-from = take-all (length l - a) (drop a l) (simp length-drop (omega arith))
+
+  pub after-part : drop (length l - a) (drop a l) ≡ []
+  after-part = drop-of-length-le (drop a l) {i = length l - a} (simp length-drop (omega arith))

@@ -1,11 +1,11 @@
--- Laws of numbers as bytes: one byte more, how large a number of few bytes can be, and that bytes fix their number.
+-- Laws of numbers as bytes: a number's bytes are some, one byte more, how large a number of few bytes can be, and that bytes fix their number.
 -- Assumes nothing.
-use mathlib.Core.Path.{_≡_, refl, sym, ap, _∙_}
+use mathlib.Core.Path.{_≡_, refl, sym, ap, _∙_, subst}
 use mathlib.Core.Logic.{⊎-elim}
 use mathlib.Core.Bool.{not, _||_, or-false, or-assoc}
 use mathlib.Core.List.{List, [], _∷_, _++_}
 use Prim.Native.Nat.{ℕ, zero, suc, _+_, _*_, _/_, _%_, _^_, _≤_, _<_}
-use native.Mathlib.Nat.{lt-of-lt-of-le, div-add-mod', mod-lt, pow-suc, one-le-pow, mul-assoc, mul-right-comm, add-mul, add-assoc, zero-lt-suc, zero-add}
+use native.Mathlib.Nat.{lt-of-lt-of-le, div-add-mod', div-lt-iff-lt-mul, mod-lt, pow-suc, one-le-pow, mul-assoc, mul-comm, mul-right-comm, add-mul, add-assoc, zero-lt-suc, zero-add}
 use native.Mathlib.Numerals.{add-one}
 use native.Mathlib.Omega.{arith}
 use lib.Dec.{eqb, eqb·suc-zero}
@@ -33,6 +33,14 @@ part-bytes l each n from k =
     (λ (h : n ≤ k). rw (List·getD-eq-default (take n rest) 0 {n = k} (omega (arith, length-take n rest))) (omega arith))
     (less k n)
 
+-- the bytes of a number that fits them
+pub bytes-small : (size v : ℕ) → v < 256 ^ size → Bytes (bytesOf size v)
+unfolding bytesOf
+bytes-small zero v h k = omega arith
+bytes-small (suc size) v h zero =
+    div-lt-iff-lt-mul (one-le-pow size 256 (zero-lt-suc 255)) .1 (subst (λ (x : ℕ). v < x) (pow-suc 256 size ∙ mul-comm (256 ^ size) 256) h)
+bytes-small (suc size) v h (suc k) = bytes-small size (v % 256 ^ size) (mod-lt v (one-le-pow size 256 (zero-lt-suc 255))) k
+
 -- ---- one byte more
 
 from-snoc : (n : ℕ) (bs : List ℕ) (b : ℕ) → numberFrom n (bs ++ (b ∷ [])) ≡ numberFrom n bs * 256 + b
@@ -51,6 +59,13 @@ number-more bytes at i h =
     rw (add-one i, take-suc (drop at bytes) i 0 inside, getD-drop at bytes i 0) (sym (from-snoc 0 (take i (drop at bytes)) (getD bytes (at + i) 0)))
 
 -- ---- how large
+
+-- a byte is 8 bits
+pub byte-bits : (n : ℕ) → 256 ^ n ≡ 2 ^ (8 * n)
+byte-bits zero = refl
+byte-bits (suc n) =
+    let e : 8 * suc n ≡ 8 * n + 8 = omega arith in
+    pow-suc 256 n ∙ ap (λ (x : ℕ). x * 256) (byte-bits n) ∙ sym (pow-add 2 (8 * n) 8) ∙ ap (λ (k : ℕ). 2 ^ k) (sym e)
 
 pub byte-more : (n b i : ℕ) → n < 2 ^ (8 * i) → b < 256 → n * 256 + b < 2 ^ (8 * (i + 1))
 byte-more n b i hn hb =

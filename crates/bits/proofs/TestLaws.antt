@@ -6,7 +6,7 @@ use mathlib.Core.Bool.{Bool, true, false, _&&_, _||_, true≢false, false≢true
 use mathlib.Core.List.{List, [], _∷_}
 use mathlib.Core.Option.{Option, none, some}
 use Prim.Native.Nat.{ℕ, zero, suc, _+_, _≤_, _<_}
-use native.Mathlib.Nat.{le-of-suc-le-suc}
+use native.Mathlib.Nat.{le-of-suc-le-suc, eq-or-lt-of-le}
 use native.Mathlib.Numerals.{add-one}
 use native.Mathlib.Omega.{arith}
 use lib.Dec.{eqb, ltb}
@@ -54,7 +54,7 @@ pub less : (a b : ℕ) → (a < b) ⊎ (b ≤ a)
 less a b = ⊎-elim (λ e. inl (ltb-true a b e)) (λ e. inr (ltb-false a b e)) (decided (ltb a b))
 
 pub equal : (a b : ℕ) → a ≤ b → (a ≡ b) ⊎ (a < b)
-equal a b l = ⊎-elim (λ h. inr h) (λ h. inl (omega arith)) (less a b)
+equal a b l = eq-or-lt-of-le l
 
 pub refuted : (b : Bool) → (b ≡ true → ⊥) → b ≡ false
 refuted true no-way = absurd (no-way refl)

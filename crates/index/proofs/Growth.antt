@@ -25,7 +25,7 @@ use Rattle.bits.specs.Word.{digit, pack, wordOf}
 use Rattle.bits.proofs.TestLaws.{decided, clash, or-falses, refuted}
 use Rattle.bits.proofs.ListLaws.{any-append, alike, map-ext, take-map, drop-map}
 use Rattle.bits.proofs.PathLaws.{prefix-at}
-use Rattle.bits.proofs.WordLaws.{pack-at, length-pack, pack-set}
+use Rattle.bits.proofs.PackLaws.{pack-at, length-pack, pack-set}
 use Rattle.bits.proofs.EachLaws.{getD-map, up-size, up-at}
 use Rattle.rules.specs.Rule.{Rule}
 use Rattle.rules.specs.Match.{ruleAt}

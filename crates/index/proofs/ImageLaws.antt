@@ -11,7 +11,7 @@ use lib.ListN.{length, getD, take, drop, length-append, length-map, length-take}
 use lib.Seq.{split-at, length-take-le, getD-take, getD-drop, take-at, drop-at}
 use Rattle.bits.specs.Word.{digit, pack}
 use Rattle.bits.proofs.EachLaws.{getD-map}
-use Rattle.bits.proofs.WordLaws.{length-aggregate}
+use Rattle.bits.proofs.PackLaws.{length-aggregate}
 use Rattle.rules.specs.Rule.{Rule}
 use Rattle.index.specs.Key.{Key, hit}
 use Rattle.index.specs.Keys.{keys}

@@ -12,7 +12,8 @@ use Rattle.bits.specs.Tests.{any}
 use Rattle.bits.specs.Word.{pack}
 use Rattle.bits.proofs.ListLaws.{any-ext, any-or, map-ext, take-map, drop-map}
 use Rattle.bits.proofs.SamePathLaws.{leads-root, leads-snoc}
-use Rattle.bits.proofs.WordLaws.{or-word, length-pack}
+use Rattle.bits.proofs.WordSetLaws.{or-word}
+use Rattle.bits.proofs.PackLaws.{length-pack}
 use Rattle.rules.specs.Rule.{Rule}
 use Rattle.index.specs.Key.{Key, at, pathsIn, hit}
 use Rattle.index.specs.Shape.{Shape}

@@ -14,7 +14,9 @@ use Rattle.bits.specs.Tests.{any, all, count}
 use Rattle.bits.specs.Word.{wordOf, pack, nonzero, andAll}
 use Rattle.bits.proofs.TestLaws.{and-trues, and-both, or-trues}
 use Rattle.bits.proofs.ListLaws.{or-left, or-right, any-map, all-map, all-ext, take-map, drop-map, map-ext, map-map}
-use Rattle.bits.proofs.WordLaws.{pack-at, nonzero-word, zipAnd, and-word, mask-word}
+use Rattle.bits.proofs.WordLaws.{nonzero-word}
+use Rattle.bits.proofs.WordSetLaws.{zipAnd, and-word, mask-word}
+use Rattle.bits.proofs.PackLaws.{pack-at}
 use Rattle.rules.specs.Rule.{Rule}
 use Rattle.rules.specs.Match.{blockOf, blocksBefore}
 use Rattle.index.specs.Key.{Key, hit}

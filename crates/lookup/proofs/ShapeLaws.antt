@@ -11,7 +11,9 @@ use Rattle.bits.specs.Tests.{all}
 use Rattle.bits.specs.Word.{pack, bit, nonzero, aggregate, andAll}
 use Rattle.bits.proofs.TestLaws.{and-trues, and-both}
 use Rattle.bits.proofs.ListLaws.{all-map, all-ext}
-use Rattle.bits.proofs.WordLaws.{bit-all, bit-nonzero, aggregate-bit, length-aggregate}
+use Rattle.bits.proofs.WordLaws.{bit-nonzero}
+use Rattle.bits.proofs.WordSetLaws.{bit-all}
+use Rattle.bits.proofs.PackLaws.{aggregate-bit, length-aggregate}
 use Rattle.index.specs.Shape.{Shape, oneLevel, deskShape}
 use Rattle.index.proofs.ImageLaws.{Sized, one-level-sized}
 

@@ -21,7 +21,9 @@ use Rattle.overlap.specs.Pairs.{Pair, triangle, onPair}
 use Rattle.overlap.specs.Order.{newPlace}
 use Rattle.overlap.specs.Judge.{clashes, overtaken, crossing, Allowed}
 use Rattle.rules.proofs.ActionLaws.{same-action, action-same}
-use Rattle.overlap.proofs.TriangleLaws.{Before, Within, triangle-exact, triangle-sorted, Earliest, FirstTold, first-told, first-none, first-some}
+use Rattle.overlap.proofs.SortedLaws.{Before}
+use Rattle.overlap.proofs.TriangleLaws.{Within, triangle-exact, triangle-sorted}
+use Rattle.overlap.proofs.KeepLaws.{Earliest, FirstTold, first-told, first-none, first-some}
 
 -- ---- rules that clash
 

@@ -1,7 +1,10 @@
 -- The laws of this crate's definitions, for its own proofs and for the crates above.
+pub mod SortedLaws
 pub mod TriangleLaws
+pub mod KeepLaws
 pub mod PairLaws
 pub mod OrderLaws
+pub mod MadeOrders
 pub mod JudgeLaws
 pub mod MoveLaws
 pub mod TableMoves

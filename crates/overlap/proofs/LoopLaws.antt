@@ -2,21 +2,20 @@
 -- the pairs after it; so what is listed of them, and what is written of that, comes in the same two parts.
 -- Assumes nothing.
 use mathlib.Core.Path.{_≡_, refl, sym, ap, _∙_}
-use mathlib.Core.Logic.{⊎-elim}
 use mathlib.Core.Bool.{Bool, true, false}
 use mathlib.Core.List.{List, [], _∷_, _++_}
 use Prim.Native.Nat.{ℕ, zero, suc, _+_, _-_, _*_, _^_, _≤_, _<_}
 use native.Mathlib.Numerals.{add-one}
 use native.Mathlib.Omega.{arith}
 use lib.ListN.{length, length-append}
-use Rattle.bits.proofs.TestLaws.{decided}
 use Rattle.rules.specs.Match.{ruleAt}
 use Rattle.rules.specs.Table.{ruleCount, rulesOf, Accepted}
 use Rattle.rules.proofs.TableLaws.{accepted-sound}
 use Rattle.rules.proofs.MatchLaws.{rules-size}
 use Rattle.overlap.specs.Pairs.{Pair, row, triangle, keep, listed, onPair, pairsOf, entries}
 use Rattle.overlap.specs.Steps.{listedRow, listedWith, listedFrom}
-use Rattle.overlap.proofs.TriangleLaws.{pair, keep-here, keep-later}
+use Rattle.overlap.proofs.SortedLaws.{pair}
+use Rattle.overlap.proofs.KeepLaws.{keep-here, keep-later, keep-append, keep-few}
 
 -- ---- what is left
 
@@ -39,24 +38,6 @@ triangle-turn n i h =
 pub triangle-over : (n i : ℕ) → n ≤ i → triangle i (n - i) ≡ []
 unfolding triangle
 triangle-over n i h = let z : n - i ≡ 0 = omega arith in ap (triangle i) z
-
-keep-append : {A : Type 0} (test : A → Bool) (xs ys : List A) → keep test (xs ++ ys) ≡ keep test xs ++ keep test ys
-unfolding keep
-keep-append test [] ys = refl
-keep-append test (x ∷ xs) ys =
-    ⊎-elim
-    (λ e. keep-here test x (xs ++ ys) e ∙ ap (λ l. x ∷ l) (keep-append test xs ys) ∙ sym (ap (λ l. l ++ keep test ys) (keep-here test x xs e)))
-    (λ e. keep-later test x (xs ++ ys) e ∙ keep-append test xs ys ∙ sym (ap (λ l. l ++ keep test ys) (keep-later test x xs e)))
-    (decided (test x))
-
-keep-few : {A : Type 0} (test : A → Bool) (xs : List A) → length (keep test xs) ≤ length xs
-unfolding keep
-keep-few test [] = omega arith
-keep-few test (x ∷ xs) =
-    ⊎-elim
-    (λ e. omega (arith, ap length (keep-here test x xs e), keep-few test xs))
-    (λ e. omega (arith, ap length (keep-later test x xs e), keep-few test xs))
-    (decided (test x))
 
 -- ---- what is listed of it
 

@@ -22,8 +22,9 @@ use Rattle.overlap.specs.Order.{isOrder, oldPlace, newPlace, moved, inPl
 use Rattle.overlap.specs.Judge.{clashes, crossing, Allowed, answerOf}
 use Rattle.bits.proofs.EachLaws.{getD-map, map-along}
 use Rattle.rules.proofs.MatchLaws.{hit, First, match-told, first-match}
-use Rattle.overlap.proofs.TriangleLaws.{pair}
-use Rattle.overlap.proofs.OrderLaws.{Order, order, new-apart, place-size, place-old, place-order, place-new, way-order, way-new, then-back, then-order, then-new}
+use Rattle.overlap.proofs.SortedLaws.{pair}
+use Rattle.overlap.proofs.OrderLaws.{Order, order, new-apart}
+use Rattle.overlap.proofs.MadeOrders.{place-size, place-old, place-order, place-new, way-order, way-new, then-back, then-order, then-new}
 use Rattle.overlap.proofs.JudgeLaws.{clash-exact, clash-swap, peace-action, Kept, allowed-exact, crossing-exact}
 
 -- ---- the moved rules

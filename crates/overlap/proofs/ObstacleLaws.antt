@@ -2,15 +2,13 @@
 -- table holds the order's new places.
 -- Assumes nothing.
 use mathlib.Core.Path.{_≡_, refl, sym, ap, ap₂, _∙_}
-use mathlib.Core.Logic.{⊎-elim}
 use mathlib.Core.Bool.{Bool, true, false, _&&_}
-use mathlib.Core.List.{List, [], _∷_, _++_, List·Memᴰ, List·Memᴰ·head, List·Memᴰ·tail}
+use mathlib.Core.List.{List, [], _∷_, _++_, nil≢cons, cons≢nil}
 use mathlib.Core.Option.{Option, none, some}
 use Prim.Native.Nat.{ℕ, _+_, _-_, _≤_, _<_}
 use native.Mathlib.Omega.{arith}
 use lib.Dec.{ltb}
 use lib.ListN.{length, getD}
-use Rattle.bits.proofs.TestLaws.{decided}
 use Rattle.rules.specs.Rule.{Rule}
 use Rattle.rules.specs.Match.{ruleAt}
 use Rattle.rules.specs.Table.{ruleCount, rulesOf}
@@ -20,49 +18,10 @@ use Rattle.overlap.specs.Order.{newPlace}
 use Rattle.overlap.specs.Judge.{clashes, overtaken, crossing}
 use Rattle.overlap.specs.Steps.{Inverts}
 use Rattle.overlap.specs.Obstacle.{overtakenBy, pairTold, foundTold, firstTold}
-use Rattle.overlap.proofs.TriangleLaws.{pair, triangle-exact, first-here, first-later}
+use Rattle.overlap.proofs.SortedLaws.{pair}
+use Rattle.overlap.proofs.TriangleLaws.{triangle-exact}
+use Rattle.overlap.proofs.KeepLaws.{first-here, first-later, first-left, first-right, first-same}
 use Rattle.overlap.proofs.LoopLaws.{row-turn, row-over, triangle-turn, triangle-over}
-
--- ---- nothing is not something
-
-none-apart : {A : Type 0} {x : A} → _≡_ {A = Option A} none (some x) → ⊥
-none-apart e = let z : _≡_ {A = ℕ} 0 1 = cc in omega arith
-
-nil-apart : {v : ℕ} {vs : List ℕ} → [] ≡ v ∷ vs → ⊥
-nil-apart e = omega (arith, ap length e)
-
--- ---- the first of two lists
-
-module _ {A : Type 0} (test : A → Bool) where
-  first-left : (xs ys : List A) (x : A) → firstOf test xs ≡ some x → firstOf test (xs ++ ys) ≡ some x
-  unfolding firstOf
-  first-left [] ys x e = absurd (none-apart e)
-  first-left (z ∷ xs) ys x e =
-      ⊎-elim
-      (λ t. first-here test z (xs ++ ys) t ∙ sym (first-here test z xs t) ∙ e)
-      (λ f. first-later test z (xs ++ ys) f ∙ first-left xs ys x (sym (first-later test z xs f) ∙ e))
-      (decided (test z))
-
-  first-right : (xs ys : List A) → firstOf test xs ≡ none → firstOf test (xs ++ ys) ≡ firstOf test ys
-  unfolding firstOf
-  first-right [] ys e = refl
-  first-right (z ∷ xs) ys e =
-      ⊎-elim
-      (λ t. absurd (none-apart (sym e ∙ first-here test z xs t)))
-      (λ f. first-later test z (xs ++ ys) f ∙ first-right xs ys (sym (first-later test z xs f) ∙ e))
-      (decided (test z))
-
--- tests that agree on a list find the same
-first-same : {A : Type 0} (t u : A → Bool) (xs : List A) → ((x : A) → List·Memᴰ x xs → t x ≡ u x) → firstOf t xs ≡ firstOf u xs
-unfolding firstOf
-first-same t u [] e = refl
-first-same t u (x ∷ xs) e =
-    let here = e x (List·Memᴰ·head refl) in
-    let rest = first-same t u xs (λ y m. e y (List·Memᴰ·tail m)) in
-    ⊎-elim
-    (λ p. first-here t x xs p ∙ sym (first-here u x xs (sym here ∙ p)))
-    (λ p. first-later t x xs p ∙ rest ∙ sym (first-later u x xs (sym here ∙ p)))
-    (decided (t x))
 
 -- ---- what is told
 
@@ -75,7 +34,7 @@ module _ (rules : List Rule) (places : List ℕ) where
   told-left ps qs v vs e = go (firstOf test ps) refl e
     where
       go : (o : Option Pair) → firstOf test ps ≡ o → foundTold rules o ≡ v ∷ vs → foundTold rules (firstOf test (ps ++ qs)) ≡ v ∷ vs
-      go none f q = absurd (nil-apart q)
+      go none f q = absurd (nil≢cons q)
       go (some p) f q = ap (foundTold rules) (first-left test ps qs p f) ∙ q
 
   told-right : (ps qs : List Pair) → firstTold rules places ps ≡ [] → firstTold rules places (ps ++ qs) ≡ firstTold rules places qs
@@ -84,7 +43,7 @@ module _ (rules : List Rule) (places : List ℕ) where
     where
       go : (o : Option Pair) → firstOf test ps ≡ o → foundTold rules o ≡ [] → foundTold rules (firstOf test (ps ++ qs)) ≡ foundTold rules (firstOf test qs)
       go none f q = ap (foundTold rules) (first-right test ps qs f)
-      go (some p) f q = absurd (nil-apart (sym q))
+      go (some p) f q = absurd (cons≢nil q)
 
   -- ---- in a row
 

@@ -14,7 +14,9 @@ use Rattle.rules.specs.Match.{matches, ruleAt}
 use Rattle.rules.specs.Overlap.{share, covers}
 use Rattle.rules.proofs.OverlapLaws.{share-exact, covers-exact}
 use Rattle.overlap.specs.Pairs.{Pair, triangle, keep, listed, onPair, pairsOf}
-use Rattle.overlap.proofs.TriangleLaws.{pair, Sorted, before-once, sorted-at, sorted-one, Within, triangle-exact, triangle-sorted, keep-exact, keep-sorted}
+use Rattle.overlap.proofs.SortedLaws.{pair, Sorted, before-once, sorted-at, sorted-one}
+use Rattle.overlap.proofs.TriangleLaws.{Within, triangle-exact, triangle-sorted}
+use Rattle.overlap.proofs.KeepLaws.{keep-exact, keep-sorted}
 
 -- ---- the pairs of a table that pass any test
 

@@ -3,28 +3,16 @@
 use mathlib.Core.Path.{_≡_, refl, sym, ap, _∙_}
 use mathlib.Core.List.{List, [], _∷_, _++_, map, map-append, flatten, append-assoc, append-nil}
 use Prim.Native.Nat.{ℕ, zero, suc, _+_, _-_, _*_, _≤_, _<_}
-use native.Mathlib.Nat.{le-of-lt}
 use native.Mathlib.Numerals.{add-one}
 use native.Mathlib.Omega.{arith}
-use lib.ListN.{length, take, drop, getD, set, length-append, length-drop, drop-of-length-le}
-use lib.Seq.{drop-cons, set-at, append-snoc, take-suc, length-take-le, take-at, drop-at, drop-drop, take-all}
+use lib.ListN.{length, take, drop, length-append}
+use lib.Seq.{take-suc, take-at, drop-at, drop-drop}
 use borrow.Rule.Slice.PartMut.{putMid}
-use Rattle.bits.proofs.ListLaws.{flatten-append}
+use Rattle.bits.proofs.ListLaws.{flatten-append, part-from, after-part}
 use Rattle.rules.specs.Table.{recordSize, ruleCount, recordAt}
 use Rattle.rules.proofs.TableLaws.{length-record}
 use Rattle.overlap.specs.Order.{oldPlace, movedTable}
 use Rattle.overlap.proofs.OrderLaws.{Order}
-
--- ---- a copy from the front
-
--- one more byte of s, at the front of d
-pub copy-more : (s d : List ℕ) (j : ℕ) → j < length s → j < length d → set (take j s ++ drop j d) j (getD s j 0) ≡ take (j + 1) s ++ drop (j + 1) d
-copy-more s d j hs hd =
-    ap (λ (r : List ℕ). set (take j s ++ r) j (getD s j 0)) (drop-cons d j 0 hd)
-    ∙ set-at (take j s) (getD d j 0) (drop (suc j) d) (getD s j 0) j (length-take-le j s (le-of-lt hs))
-    ∙ sym (append-snoc (take j s) (getD s j 0) (drop (suc j) d))
-    ∙ ap (λ (r : List ℕ). r ++ drop (suc j) d) (sym (take-suc s j 0 hs))
-    ∙ ap (λ (n : ℕ). take n s ++ drop n d) (sym (add-one j))
 
 -- ---- the records of the first places of an order
 
@@ -61,13 +49,7 @@ module _ (table order : List ℕ) (O : Order (ruleCount table) order) where
       ∙ length-append (movedTable table (take place order)) (recordAt table (oldPlace order place))
       ∙ omega (arith, moved-front place (omega arith), old-record place h)
 
--- ---- a part from a start to the end: what is lent, and what lies after it
-
-pub part-from : (a : ℕ) (o : List ℕ) → take (length o - a) (drop a o) ≡ drop a o
-part-from a o = take-all (length o - a) (drop a o) (simp length-drop (omega arith))
-
-after-part : (a : ℕ) (o : List ℕ) → drop (length o - a) (drop a o) ≡ []
-after-part a o = drop-of-length-le (drop a o) {i = length o - a} (simp length-drop (omega arith))
+-- ---- one record more
 
 -- what stands after a record was put through the part that starts at a: A is what was written before, r the record, and d what stood there at first
 pub put-one : (A r d o : List ℕ) (a : ℕ) → o ≡ A ++ drop a d → length A ≡ a → length r ≡ recordSize

@@ -1,59 +1,26 @@
 -- Moves in bytes: the moved table is as long as the table, its records are the table's in their new order, and so are its rules. It is
 -- accepted where the table is; and moves in place, back and in a row do to bytes what they do to rules.
 -- Assumes nothing.
-use mathlib.Core.Path.{_≡_, refl, sym, ap, _∙_}
+use mathlib.Core.Path.{_≡_, sym, ap, _∙_}
 use mathlib.Core.Bool.{true}
-use mathlib.Core.List.{List, [], _∷_, _++_, map, flatten}
-use Prim.Native.Nat.{ℕ, zero, suc, _+_, _*_, _<_}
+use mathlib.Core.List.{List, [], _∷_, map, flatten}
+use Prim.Native.Nat.{ℕ, _*_, _<_}
 use native.Mathlib.Omega.{arith}
-use lib.ListN.{length, getD, take, drop, length-map, length-append}
-use lib.Seq.{ext-getD, take-at, take-add, take-length, drop-drop, drop-append-add}
+use lib.ListN.{length, take, length-map}
+use lib.Seq.{ext-getD, take-length}
 use Rattle.bits.specs.Number.{Bytes}
-use Rattle.bits.specs.Tests.{upFrom}
+use Rattle.bits.proofs.EachLaws.{getD-map, map-along}
 use Rattle.bits.proofs.NumberLaws.{bytes-append}
+use Rattle.bits.proofs.RowLaws.{Rows, rows-size, row-at, rows-of}
 use Rattle.rules.specs.Rule.{ruleOf}
 use Rattle.rules.specs.Match.{noRule}
 use Rattle.rules.specs.Table.{recordSize, ruleCount, recordAt, rulesOf, fault, Accepted}
 use Rattle.rules.proofs.TableLaws.{length-record, accepted-sound, sound-accepted}
 use Rattle.overlap.specs.Order.{isOrder, oldPlace, moved, movedTable, inPlace, wayBack, andThen}
-use Rattle.bits.proofs.EachLaws.{getD-map, map-along}
 use Rattle.rules.proofs.MatchLaws.{rules-size, rules-at, record-bytes}
-use Rattle.overlap.proofs.OrderLaws.{Order, order, way-order, then-back}
+use Rattle.overlap.proofs.OrderLaws.{Order, order}
+use Rattle.overlap.proofs.MadeOrders.{way-order, then-back}
 use Rattle.overlap.proofs.MoveLaws.{moved-size, moved-at}
-
--- ---- records one after another
-
--- every record is whole
-abbrev Whole : List (List ℕ) → Type 0
-Whole rs = (k : ℕ) → k < length rs → length (getD rs k []) ≡ recordSize
-
-flat-size : (rs : List (List ℕ)) → Whole rs → length (flatten rs) ≡ length rs * recordSize
-unfolding flatten
-flat-size [] w = refl
-flat-size (r ∷ rs) w = omega (arith, length-append r (flatten rs), w 0 (omega arith), flat-size rs (λ k h. w (suc k) (omega arith)))
-
-flat-at : (rs : List (List ℕ)) → Whole rs → (k : ℕ) → k < length rs → recordAt (flatten rs) k ≡ getD rs k []
-unfolding flatten recordAt
-flat-at [] w k h = absurd (omega arith)
-flat-at (r ∷ rs) w zero h = take-at r (flatten rs) recordSize (w 0 h)
-flat-at (r ∷ rs) w (suc k) h =
-    let e : suc k * recordSize ≡ length r + k * recordSize = omega (arith, w 0 (omega arith)) in
-    ap (λ (n : ℕ). take recordSize (drop n (r ++ flatten rs))) e
-    ∙ ap (take recordSize) (drop-append-add r (flatten rs) (k * recordSize))
-    ∙ flat-at rs (λ j l. w (suc j) (omega arith)) k (omega arith)
-
--- the records of a table, from place k on, are its bytes from there on
-records-flat : (table : List ℕ) (k n : ℕ) → flatten (map (recordAt table) (upFrom k n)) ≡ take (n * recordSize) (drop (k * recordSize) table)
-unfolding flatten upFrom recordAt
-records-flat table k zero = refl
-records-flat table k (suc n) =
-    let a = drop (k * recordSize) table in
-    let e : k * recordSize + recordSize ≡ suc k * recordSize = omega arith in
-    let s : recordSize + n * recordSize ≡ suc n * recordSize = omega arith in
-    ap (λ (r : List ℕ). take recordSize a ++ r)
-    (records-flat table (suc k) n ∙ ap (λ (m : ℕ). take (n * recordSize) (drop m table)) (sym e) ∙ ap (take (n * recordSize)) (sym (drop-drop recordSize (k * recordSize) table)))
-    ∙ sym (take-add recordSize (n * recordSize) a)
-    ∙ ap (λ (m : ℕ). take m a) s
 
 -- ---- the moved table
 
@@ -66,7 +33,7 @@ module _ (table o : List ℕ) (e : isOrder (ruleCount table) o ≡ true) where
   O : Order (ruleCount table) o
   O = order (ruleCount table) o e
 
-  whole : Whole (map (recordAt table) o)
+  whole : Rows recordSize (map (recordAt table) o)
   whole k h =
       let l : k < ruleCount table = omega (arith, length-map o (recordAt table), O .size) in
       ap length (getD-map (recordAt table) o k [] 0 (rw (O .size) l))
@@ -74,7 +41,7 @@ module _ (table o : List ℕ) (e : isOrder (ruleCount table) o ≡ true) where
 
   size : length (movedTable table o) ≡ ruleCount table * recordSize
   unfolding movedTable
-  size = flat-size (map (recordAt table) o) whole ∙ ap (λ (n : ℕ). n * recordSize) (length-map o (recordAt table) ∙ O .size)
+  size = rows-size recordSize (map (recordAt table) o) whole ∙ ap (λ (n : ℕ). n * recordSize) (length-map o (recordAt table) ∙ O .size)
 
   pub moved-count : ruleCount (movedTable table o) ≡ ruleCount table
   moved-count = omega (arith, size)
@@ -83,10 +50,10 @@ module _ (table o : List ℕ) (e : isOrder (ruleCount table) o ≡ true) where
   moved-length w = size ∙ sym w
 
   pub moved-record : (k : ℕ) → k < ruleCount table → recordAt (movedTable table o) k ≡ recordAt table (oldPlace o k)
-  unfolding movedTable
+  unfolding movedTable recordAt
   moved-record k h =
       let l : k < length o = rw (O .size) h in
-      flat-at (map (recordAt table) o) whole k (rw (length-map o (recordAt table)) l) ∙ getD-map (recordAt table) o k [] 0 l
+      row-at recordSize (map (recordAt table) o) whole k (rw (length-map o (recordAt table)) l) ∙ getD-map (recordAt table) o k [] 0 l
 
   pub moved-rules : rulesOf (movedTable table o) ≡ moved (rulesOf table) o
   moved-rules =
@@ -115,8 +82,8 @@ pub accepted-whole : (table : List ℕ) → Accepted table → length table ≡ 
 accepted-whole table a = omega (arith, accepted-sound table a .whole)
 
 pub bytes-in-place : (table : List ℕ) → length table ≡ ruleCount table * recordSize → movedTable table (inPlace (ruleCount table)) ≡ table
-unfolding movedTable inPlace
-bytes-in-place table w = records-flat table 0 (ruleCount table) ∙ ap (λ (n : ℕ). take n table) (sym w) ∙ take-length table
+unfolding movedTable inPlace recordAt
+bytes-in-place table w = rows-of recordSize table 0 (ruleCount table) ∙ ap (λ (n : ℕ). take n table) (sym w) ∙ take-length table
 
 pub bytes-compose : (table o p : List ℕ) → isOrder (ruleCount table) o ≡ true → isOrder (ruleCount (movedTable table o)) p ≡ true
     → movedTable (movedTable table o) p ≡ movedTable table (andThen o p)

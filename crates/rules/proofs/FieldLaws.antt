@@ -47,6 +47,16 @@ listed g f = List·getD-map g fields f (fieldAt 5)
 
 -- ---- a test of the fields that are left, from field f on
 
+-- past the last field none is left
+module _ (test : Field → Bool) (f : ℕ) (over : f ≡ 5) where
+  pub field-over : any test (drop f fields) ≡ false
+  unfolding any
+  field-over = ap (λ (g : ℕ). any test (drop g fields)) over
+
+  pub all-over : all test (drop f fields) ≡ true
+  unfolding all
+  all-over = ap (λ (g : ℕ). all test (drop g fields)) over
+
 module _ (test : Field → Bool) (f : ℕ) (inside : f < 5) where
   field-turn : any test (drop f fields) ≡ (test (fieldAt f) || any test (drop (f + 1) fields))
   field-turn = any-from test fields (fieldAt 5) f inside

@@ -1,17 +1,15 @@
 -- A header's bytes from its values; two rules' lowest shared header in bytes; and two rules that share any values share a header of 13 bytes.
 -- Assumes nothing.
-use mathlib.Core.Path.{_≡_, refl, sym, ap, _∙_, subst}
+use mathlib.Core.Path.{_≡_, refl, subst}
 use mathlib.Core.Bool.{true}
 use mathlib.Core.List.{List, [], _∷_, zipWith, flatten}
-use Prim.Native.Nat.{ℕ, zero, suc, _+_, _*_, _/_, _%_, _^_, _<_, max}
-use native.Mathlib.Nat.{mod-lt, div-lt-iff-lt-mul, one-le-pow, zero-lt-suc, pow-suc, mul-comm, zero-add}
+use Prim.Native.Nat.{ℕ, suc, _/_, _^_, _<_, max}
 use native.Mathlib.Omega.{arith}
 use lib.ListN.{length, getD}
-use lib.Pow.{pow-add}
 use Rattle.bits.specs.Number.{Bytes, numberAt, bytesOf}
 use Rattle.bits.specs.Tests.{upFrom}
-use Rattle.bits.proofs.NumberLaws.{bytes-append, number-bytes}
-use Rattle.bits.proofs.EachLaws.{getD-map, up-at}
+use Rattle.bits.proofs.NumberLaws.{bytes-append, bytes-small, byte-bits, number-bytes}
+use Rattle.bits.proofs.EachLaws.{tabled}
 use Rattle.rules.specs.declared.Header.{Header}
 use Rattle.rules.specs.Field.{Field, fields, fieldAt, valueIn}
 use Rattle.rules.specs.Rule.{spanOf, ruleOf}
@@ -24,21 +22,7 @@ use Rattle.rules.proofs.FieldLaws.{field-sound}
 use Rattle.rules.proofs.RuleLaws.{value-small}
 use Rattle.rules.proofs.OverlapLaws.{lowest-shared-fits}
 
--- ---- bytes
-
--- a byte is 8 bits
-byte-bits : (n : ℕ) → 256 ^ n ≡ 2 ^ (8 * n)
-byte-bits zero = refl
-byte-bits (suc n) =
-    let e : 8 * suc n ≡ 8 * n + 8 = omega arith in
-    pow-suc 256 n ∙ ap (λ (x : ℕ). x * 256) (byte-bits n) ∙ sym (pow-add 2 (8 * n) 8) ∙ ap (λ (k : ℕ). 2 ^ k) (sym e)
-
-bytes-small : (size v : ℕ) → v < 256 ^ size → Bytes (bytesOf size v)
-unfolding bytesOf
-bytes-small zero v h k = omega arith
-bytes-small (suc size) v h zero =
-    div-lt-iff-lt-mul (one-le-pow size 256 (zero-lt-suc 255)) .1 (subst (λ (x : ℕ). v < x) (pow-suc 256 size ∙ mul-comm (256 ^ size) 256) h)
-bytes-small (suc size) v h (suc k) = bytes-small size (v % 256 ^ size) (mod-lt v (one-le-pow size 256 (zero-lt-suc 255))) k
+-- ---- a header's bytes
 
 -- values at the widths of some fields, each of which fits its field
 fields-bytes : (fs : List Field) (vs : List ℕ) → ((k : ℕ) → k < length fs → getD vs k 0 < 256 ^ (getD fs k (fieldAt 5) .width / 8))
@@ -49,8 +33,6 @@ fields-bytes (f ∷ fs) [] fits = λ k. omega arith
 fields-bytes (f ∷ fs) (v ∷ vs) fits =
     bytes-append (bytesOf (f .width / 8) v) (flatten (zipWith (λ (g : Field) x. bytesOf (g .width / 8) x) fs vs))
     (bytes-small (f .width / 8) v (fits 0 (omega arith))) (fields-bytes fs vs (λ k h. fits (suc k) (omega arith)))
-
--- ---- a header's bytes
 
 pub header-bytes : (vs : List ℕ) → ((f : ℕ) → f < 5 → getD vs f 0 < 2 ^ (fieldAt f .width)) → Bytes (headerBytes vs)
 unfolding headerBytes
@@ -100,7 +82,7 @@ module _ (a b : List ℕ) (ba : Bytes a) (bb : Bytes b) (ra : SoundRule a) (rb :
 
   lowest-small : (f : ℕ) → f < 5 → getD (values (lowest a b)) f 0 < 2 ^ (fieldAt f .width)
   unfolding upFrom
-  lowest-small f h = rw (getD-map (larger a b) (upFrom 0 5) f 0 0 h, up-at 0 5 f 0 h, zero-add f) (larger-small f h)
+  lowest-small f h = rw (tabled (larger a b) 5 f 0 h) (larger-small f h)
 
   pub lowest-reads : Reads (lowestShared (ruleOf a) (ruleOf b)) (headerBytes (lowestShared (ruleOf a) (ruleOf b)))
   lowest-reads =

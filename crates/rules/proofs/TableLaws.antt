@@ -3,13 +3,13 @@
 use mathlib.Core.Path.{_≡_, refl, sym, ap, _∙_}
 use mathlib.Core.Logic.{_⊎_, inl, inr}
 use mathlib.Core.Bool.{Bool, true, false, not, cond, _&&_, true≢false}
-use mathlib.Core.List.{List, [], _∷_}
+use mathlib.Core.List.{List, [], _∷_, head-eq-of-cons-eq}
 use mathlib.Core.Option.{Option, none, some}
 use Prim.Native.Nat.{ℕ, zero, suc, _+_, _*_, _%_, _≤_, _<_}
 use native.Mathlib.Numerals.{add-one}
 use native.Mathlib.Omega.{arith}
 use lib.Dec.{eqb, ltb}
-use lib.ListN.{length, getD, take, drop, length-take, length-drop}
+use lib.ListN.{length, take, drop, length-take, length-drop}
 use borrow.Author.Tests.{eqb-true, eqb-false, ltb-false, ltb-true, not-true, not-false, eq-eqb, le-ltb}
 use Rattle.bits.specs.Number.{numberAt}
 use Rattle.bits.specs.Tests.{all, lowest}
@@ -141,9 +141,6 @@ rules-more table n = rw (add-one n) (go (lowest (faulty table) n) (lowest-told (
 
 -- ---- accepted tables
 
-number-apart : (m n : ℕ) → (m ≡ n → ⊥) → {vs ws : List ℕ} → m ∷ vs ≡ n ∷ ws → ⊥
-number-apart m n apart e = apart (ap (λ (l : List ℕ). getD l 0 0) e)
-
 -- whole records, not too many, and none at fault
 pub record Sound (table : List ℕ) : Type 0 where
   pub whole : length table % recordSize ≡ 0
@@ -159,7 +156,7 @@ rules-sound table n e = go (lowest (faulty table) n) (lowest-told (faulty table)
     go (some p) t q place h =
         let bad = faulty-fault table p (t .passes) in
         let said : fault (recordAt table p) ∷ p ∷ [] ≡ 0 ∷ [] = rw bad at q in
-        absurd (eqb-false (fault (recordAt table p)) 0 bad (ap (λ (l : List ℕ). getD l 0 0) said))
+        absurd (eqb-false (fault (recordAt table p)) 0 bad (head-eq-of-cons-eq said))
 
 pub accepted-sound : (table : List ℕ) → Accepted table → Sound table
 unfolding verdict
@@ -167,8 +164,8 @@ accepted-sound table e = go (eqb (length table % recordSize) 0) refl (ltb mostRu
   where
     go : (w : Bool) → eqb (length table % recordSize) 0 ≡ w → (m : Bool) → ltb mostRules (ruleCount table) ≡ m
         → cond (not w) (1 ∷ []) (cond m (2 ∷ []) (rulesSaid table (ruleCount table))) ≡ 0 ∷ [] → Sound table
-    go false p m q r = absurd (number-apart 1 0 (λ d. omega arith) r)
-    go true p true q r = absurd (number-apart 2 0 (λ d. omega arith) r)
+    go false p m q r = absurd (omega (arith, head-eq-of-cons-eq r))
+    go true p true q r = absurd (omega (arith, head-eq-of-cons-eq r))
     go true p false q r = record {
       whole = eqb-true _ _ p;
       few = ltb-false _ _ q;

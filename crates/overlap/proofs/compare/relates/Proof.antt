@@ -1,6 +1,6 @@
 -- `relates` meets its contract. The loop's invariant: the fields that are left decide.
 -- Assumes nothing.
-use mathlib.Core.Path.{_≡_, sym, ap, _∙_}
+use mathlib.Core.Path.{_≡_, sym, _∙_}
 use mathlib.Core.Bool.{Bool}
 use mathlib.Core.List.{List}
 use Prim.Native.Nat.{ℕ, _-_, _≤_}
@@ -11,7 +11,7 @@ use denote.Ref.{now}
 use Rattle.bits.specs.Tests.{all}
 use Rattle.rules.specs.Field.{Field, fields}
 use Rattle.rules.specs.Rule.{ruleOf}
-use Rattle.rules.proofs.FieldLaws.{field-fails, field-passes}
+use Rattle.rules.proofs.FieldLaws.{all-over, field-fails, field-passes}
 use Rattle.overlap.specs.declared.compare.Relation.{Relation}
 use Rattle.overlap.specs.Record.{spanIn, spansRelate, rulesRelate}
 use Rattle.overlap.proofs.RecordLaws.{fields-decide}
@@ -47,12 +47,10 @@ loop-again c =
     )
 
 returns-2 : tie.Need-returns-2 Inv-loop μ-loop
-unfolding all
 returns-2 c =
     let k = c .before in
     let a = k .before .before .before .args in
-    let e : k .loop .f ≡ 5 = omega arith in
-    ap (λ (f : ℕ). all (test (a .relation) (now (a .a)) (now (a .b))) (drop f fields)) (sym e) ∙ k .loop .inv .1
+    sym (all-over (test (a .relation) (now (a .a)) (now (a .b))) (k .loop .f) (omega arith)) ∙ k .loop .inv .1
 
 pub relates-spec : {M : Type 1} → statement M
 relates-spec =

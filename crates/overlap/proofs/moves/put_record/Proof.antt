@@ -2,12 +2,13 @@
 -- Assumes nothing.
 use mathlib.Core.Path.{_≡_, refl, ap, _∙_}
 use mathlib.Core.List.{List, _++_}
-use Prim.Native.Nat.{ℕ, _-_, _≤_}
+use Prim.Native.Nat.{ℕ, suc, _+_, _-_, _≤_, _<_}
+use native.Mathlib.Nat.{zero-add}
+use native.Mathlib.Numerals.{add-one}
 use native.Mathlib.Omega.{arith}
 use lib.ListN.{length, take, drop, getD, set, length-set}
-use lib.Seq.{take-length}
+use lib.Seq.{take-length, paste-suc}
 use denote.Ref.{now}
-use Rattle.overlap.proofs.PutLaws.{copy-more}
 use Rattle.overlap.proofs.moves.put_record.Statement.{statement}
 use Rattle.overlap.proofs.moves.put_record.Tie as tie
 
@@ -17,6 +18,10 @@ Inv-loop output₀ rule i₀ i-end output i =
 
 abbrev μ-loop : tie.MeasureT-loop
 μ-loop output₀ rule i₀ i-end output i = i-end - i
+
+-- one byte more of s, at the front of d
+copy-more : (s d : List ℕ) (j : ℕ) → j < length s → j < length d → set (take j s ++ drop j d) j (getD s j 0) ≡ take (j + 1) s ++ drop (j + 1) d
+copy-more s d j hs hd = rw (add-one j) (rw (zero-add j, zero-add (suc j)) at (paste-suc d 0 s j 0 (omega arith) hs))
 
 loop-again : tie.Need-loop-again Inv-loop μ-loop
 loop-again c =

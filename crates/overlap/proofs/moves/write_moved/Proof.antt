@@ -10,11 +10,12 @@ use lib.Seq.{take-length}
 use borrow.Author.Needs.{needs}
 use borrow.Rule.Slice.PartMut.{putMid}
 use denote.Ref.{now}
+use Rattle.bits.proofs.ListLaws.{part-from}
 use Rattle.rules.specs.Table.{recordSize, ruleCount, recordAt}
 use Rattle.overlap.specs.Order.{oldPlace, movedTable}
 use Rattle.overlap.proofs.OrderLaws.{Order, order}
 use Rattle.overlap.proofs.TableMoves.{accepted-whole}
-use Rattle.overlap.proofs.PutLaws.{moved-none, moved-more, old-record, moved-front, part-from, put-one}
+use Rattle.overlap.proofs.PutLaws.{moved-none, moved-more, old-record, moved-front, put-one}
 use Rattle.overlap.proofs.moves.write_moved.Statement.{statement}
 use Rattle.overlap.proofs.moves.write_moved.Tie as tie
 

@@ -1,6 +1,6 @@
 -- `has_stray_bit` meets its contract. The loop's invariant: the fields that are left decide.
 -- Assumes nothing.
-use mathlib.Core.Path.{_≡_, refl, sym, ap, _∙_}
+use mathlib.Core.Path.{_≡_, refl, sym, _∙_}
 use mathlib.Core.Bool.{Bool}
 use mathlib.Core.List.{List}
 use Prim.Native.Nat.{ℕ, _-_, _≤_}
@@ -13,7 +13,7 @@ use Rattle.bits.specs.Path.{stray}
 use Rattle.bits.specs.Tests.{any}
 use Rattle.rules.specs.Field.{Field, fields, fieldAt, valueIn, lengthIn}
 use Rattle.rules.specs.Table.{longPrefix, strayBit}
-use Rattle.rules.proofs.FieldLaws.{field-stop, field-on, field-none}
+use Rattle.rules.proofs.FieldLaws.{field-over, field-stop, field-on, field-none}
 use Rattle.rules.proofs.check.has_stray_bit.Statement.{statement}
 use Rattle.rules.proofs.check.has_stray_bit.Tie as tie
 
@@ -68,12 +68,7 @@ loop-again c =
     (omega arith, sym (field-on (strays b) f (omega arith) (stray-here (c .before) ∙ c .if1 .left)) ∙ k .loop .inv .1)
 
 returns-2 : tie.Need-returns-2 Inv-loop μ-loop
-unfolding any
-returns-2 c =
-    let k = c .before in
-    let b = now (k .before .before .args .rule) in
-    let e : k .loop .f ≡ 5 = omega arith in
-    ap (λ (f : ℕ). any (strays b) (drop f fields)) (sym e) ∙ k .loop .inv .1
+returns-2 c = let k = c .before in sym (field-over (strays (now (k .before .before .args .rule))) (k .loop .f) (omega arith)) ∙ k .loop .inv .1
 
 pub has-stray-bit-spec : {M : Type 1} → statement M
 has-stray-bit-spec =
