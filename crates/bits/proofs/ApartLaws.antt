@@ -4,12 +4,12 @@ use mathlib.Core.Path.{_≡_, sym, ap, _∙_}
 use mathlib.Core.Logic.{_⊎_, inl, inr, ⊎-elim}
 use mathlib.Core.Bool.{cond}
 use mathlib.Core.List.{List, _∷_}
-use Prim.Native.Nat.{ℕ, zero, suc, _+_, _≤_, _<_}
+use Prim.Native.Nat.{ℕ, zero, suc, _≤_, _<_}
 use native.Mathlib.Omega.{arith}
 use lib.Dec.{eqb}
 use lib.ListN.{getD}
 use borrow.Author.Tests.{eqb-true, eqb-false}
-use Rattle.bits.proofs.TestLaws.{decided, equal, three}
+use Rattle.bits.proofs.TestLaws.{decided, three}
 
 -- f at the places below m: each number is below n, and no two are the same
 pub record Apart (m n : ℕ) (f : ℕ → ℕ) : Type 0 where
@@ -18,13 +18,6 @@ pub record Apart (m n : ℕ) (f : ℕ → ℕ) : Type 0 where
 
 pub apart-none : (n : ℕ) (f : ℕ → ℕ) → Apart 0 n f
 apart-none n f = record { small = λ k h. absurd (omega arith); differ = λ j k g h. absurd (omega arith) }
-
-pub apart-more : (m n : ℕ) (f : ℕ → ℕ) → Apart m n f → f m < n → ((k : ℕ) → k < m → f k ≡ f m → ⊥) → Apart (m + 1) n f
-apart-more m n f a s new = record {
-  small = λ k h. ⊎-elim (λ (e : k ≡ m). rw e s) (λ g. a .small k g) (equal k m (omega arith));
-  differ = λ j k g h e.
-      ⊎-elim (λ (q : k ≡ m). new j (omega arith) (e ∙ ap f q)) (λ l. a .differ j k g l e) (equal k m (omega arith));
-}
 
 -- one number more, in front
 pub apart-cons : (m n x : ℕ) (xs : List ℕ) → x < n → ((k : ℕ) → k < m → getD xs k 0 ≡ x → ⊥) → Apart m n (λ k. getD xs k 0) → Apart (suc m) n (λ k. getD (x ∷ xs) k 0)
