@@ -4,11 +4,11 @@
 use mathlib.Core.Path.{_≡_, refl, sym, ap, ap₂, subst, _∙_}
 use mathlib.Core.Logic.{_↔_, _⊎_, inl, inr, ⊎-elim}
 use mathlib.Core.Bool.{true, false}
-use mathlib.Core.List.{List, [], _∷_, _++_}
+use mathlib.Core.List.{List, [], _∷_, _++_, head-eq-of-cons-eq}
 use mathlib.Core.Option.{Option, none, some}
 use Prim.Native.Nat.{ℕ, _≤_, _<_}
 use native.Mathlib.Omega.{arith}
-use lib.ListN.{length, getD, take, drop}
+use lib.ListN.{length, take, drop}
 use lib.Seq.{take-at, drop-at}
 use Rattle.bits.proofs.TestLaws.{decided, less}
 use Rattle.rules.specs.declared.Crossing.{Crossing}
@@ -24,8 +24,9 @@ use Rattle.overlap.specs.Pairs.{Pair}
 use Rattle.overlap.specs.Order.{isOrder, newPlace, moved, movedTable, inPlace, wayBack, andThen}
 use Rattle.overlap.specs.Judge as judge
 use Rattle.overlap.specs.Obstacle.{pairTold, foundTold, crossingTold}
-use Rattle.overlap.proofs.TriangleLaws.{pair}
-use Rattle.overlap.proofs.OrderLaws.{order-exact, order, way-order, place-order}
+use Rattle.overlap.proofs.SortedLaws.{pair}
+use Rattle.overlap.proofs.OrderLaws.{order-exact, order}
+use Rattle.overlap.proofs.MadeOrders.{way-order, place-order}
 use Rattle.overlap.proofs.JudgeLaws.{Kept, allowed-exact, crossing-exact}
 use Rattle.overlap.proofs.MoveLaws.{in-place-allowed, undo, compose}
 use Rattle.overlap.proofs.TableMoves.{moved-count, moved-length, moved-rules, moved-accepted, accepted-whole, bytes-in-place, bytes-undo, bytes-compose}
@@ -62,14 +63,14 @@ module _ (table order output after : List ℕ) (j : Judges table order output ju
   no-crossing : (o : Option Pair) → crossingSaid (rulesOf table) o ≡ 0 ∷ [] → o ≡ none
   unfolding crossingSaid
   no-crossing none e = refl
-  no-crossing (some p) e = absurd (omega (arith, ap (λ (l : List ℕ). getD l 0 0) e))
+  no-crossing (some p) e = absurd (omega (arith, head-eq-of-cons-eq e))
 
   -- a list that is no order would have been refused
   not-eleven : isOrder (ruleCount table) order ≡ false → ⊥
   unfolding orderSaid firstRefusal
   not-eleven e =
       let eleven : _≡_ {A = List ℕ} (11 ∷ []) (0 ∷ []) = rw e at past-table in
-      omega (arith, ap (λ (l : List ℕ). getD l 0 0) eleven)
+      omega (arith, head-eq-of-cons-eq eleven)
 
   is-order : isOrder (ruleCount table) order ≡ true
   is-order = ⊎-elim (λ e. e) (λ e. absurd (not-eleven e)) (decided (isOrder (ruleCount table) order))

@@ -4,7 +4,7 @@
 use mathlib.Core.Path.{_≡_, sym, ap, _∙_}
 use mathlib.Core.Logic.{⊎-elim}
 use mathlib.Core.Bool.{Bool, true, false, cond}
-use mathlib.Core.List.{List, [], _∷_}
+use mathlib.Core.List.{List, [], _∷_, head-eq-of-cons-eq}
 use Prim.Native.Nat.{ℕ, zero, suc, _≤_, _<_}
 use native.Mathlib.Omega.{arith}
 use lib.Dec.{ltb}
@@ -56,7 +56,7 @@ pub first-last : (a b vs : List ℕ) → firstRefusal a b ≡ 0 ∷ vs → b ≡
 unfolding firstRefusal
 first-last [] b vs e = e
 first-last (zero ∷ ws) b vs e = e
-first-last (suc n ∷ ws) b vs e = absurd (omega (arith, ap (λ (l : List ℕ). getD l 0 0) e))
+first-last (suc n ∷ ws) b vs e = absurd (omega (arith, head-eq-of-cons-eq e))
 
 -- what is done after the room was judged carries the value
 pub room-value : (table lent : List ℕ) (number needed value said : ℕ) → firstRefusal (verdict table) (roomSaid (suc number) needed lent value) ≡ 0 ∷ said ∷ [] → said ≡ value
@@ -65,7 +65,7 @@ room-value table lent number needed value said e =
     go (ltb (length lent) needed) (first-last (verdict table) (roomSaid (suc number) needed lent value) (said ∷ []) e)
   where
     go : (short : Bool) → cond short (suc number ∷ []) (0 ∷ value ∷ []) ≡ 0 ∷ said ∷ [] → said ≡ value
-    go true q = absurd (omega (arith, ap (λ (l : List ℕ). getD l 0 0) q))
+    go true q = absurd (omega (arith, head-eq-of-cons-eq q))
     go false q = sym (ap (λ (l : List ℕ). getD l 1 0) q)
 
 -- what is done had an accepted table, and what was to be written is left
@@ -75,7 +75,7 @@ done-accepted table rest vs e =
     ⊎-elim (λ (ok : Accepted table). ok)
     (λ (bad : (n : ℕ) × (ws : List ℕ) × (verdict table ≡ suc n ∷ ws)).
     let said : suc (bad .0) ∷ bad .1 ≡ 0 ∷ vs = sym (ap (λ (l : List ℕ). firstRefusal l rest) (bad .2)) ∙ e in
-    absurd (omega (arith, ap (λ (l : List ℕ). getD l 0 0) said)))
+    absurd (omega (arith, head-eq-of-cons-eq said)))
     (verdict-either table)
 
 pub done-written : (says written before vs : List ℕ) → says ≡ 0 ∷ vs → lentAfter says written before ≡ written

@@ -17,7 +17,7 @@ use Rattle.rules.specs.Overlap.{covers}
 use Rattle.rules.specs.Table.{ruleCount, recordAt, rulesOf}
 use Rattle.rules.proofs.MatchLaws.{rules-at}
 use Rattle.overlap.specs.Pairs.{Pair, pairsOf, entries}
-use Rattle.overlap.proofs.TriangleLaws.{pair, sorted-at}
+use Rattle.overlap.proofs.SortedLaws.{pair, sorted-at}
 use Rattle.overlap.proofs.PairLaws.{pairs-sorted}
 use Rattle.overlap.proofs.ListedHeaders.{listed-header}
 use Rattle.overlap.proofs.LoopLaws.{entries-size}

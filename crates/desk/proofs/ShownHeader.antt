@@ -4,7 +4,7 @@
 use mathlib.Core.Path.{_≡_, refl, sym, ap, ap₂, subst, _∙_}
 use mathlib.Core.Logic.{_⊎_}
 use mathlib.Core.Bool.{true}
-use mathlib.Core.List.{List, [], _∷_, _++_}
+use mathlib.Core.List.{List, [], _∷_, _++_, head-eq-of-cons-eq}
 use mathlib.Core.Option.{Option, none, some}
 use Prim.Native.Nat.{ℕ, _*_, _≤_, _<_}
 use native.Mathlib.Omega.{arith}
@@ -32,7 +32,7 @@ use Rattle.rules.proofs.OverlapLaws.{lowest-shared-fits, lowest-shared-lowest}
 use Rattle.overlap.specs.Pairs.{Pair}
 use Rattle.overlap.specs.Order.{newPlace}
 use Rattle.overlap.specs.Judge as judge
-use Rattle.overlap.proofs.TriangleLaws.{pair}
+use Rattle.overlap.proofs.SortedLaws.{pair}
 use Rattle.overlap.proofs.JudgeLaws.{clash-exact, Crossed, crossing-exact}
 use Rattle.lookup.specs.declared.Looked.{Looked}
 use Rattle.desk.specs.declared.Judged as judged
@@ -148,7 +148,7 @@ module _ {table o output after : List ℕ} {c : Crossing} (t : IsTable table) (i
   named : (q : Option Pair) → judge.crossing rules o ≡ q → said (NotAllowed c) ≡ crossingSaid rules q
       → ShownBy table o (c .lower) (c .higher) (headerBytes (values (c .header)))
   unfolding said crossingSaid
-  named none e s = absurd (omega (arith, ap (λ (l : List ℕ). getD l 0 0) s))
+  named none e s = absurd (omega (arith, head-eq-of-cons-eq s))
   named (some p) e s =
       let crossed = crossing-exact rules o p .0 e in
       let low : c .lower ≡ p .lower = ap (λ (l : List ℕ). getD l 1 0) s in

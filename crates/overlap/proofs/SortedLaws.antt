@@ -7,6 +7,7 @@ use mathlib.Core.List.{List, [], _∷_, _++_, List·Memᴰ, List·Memᴰ·head, 
 use Prim.Native.Nat.{ℕ, zero, suc, _<_}
 use native.Mathlib.Omega.{arith}
 use lib.ListN.{length, getD}
+use Rattle.bits.proofs.MemberLaws.{place-member}
 use Rattle.bits.proofs.TestLaws.{three}
 use Rattle.overlap.specs.Pairs.{Pair}
 
@@ -55,12 +56,7 @@ append-sorted (p ∷ ps) qs s t b = (
 pub sorted-at : (ps : List Pair) (d : Pair) → Sorted ps → (k l : ℕ) → k < l → l < length ps → Before (getD ps k d) (getD ps l d)
 sorted-at [] d s k l g h = absurd (omega arith)
 sorted-at (p ∷ ps) d s k zero g h = absurd (omega arith)
-sorted-at (p ∷ ps) d s zero (suc l) g h = s .0 (getD ps l d) (at-in ps l (omega arith))
-  where
-    at-in : (qs : List Pair) (j : ℕ) → j < length qs → List·Memᴰ (getD qs j d) qs
-    at-in [] j h = absurd (omega arith)
-    at-in (q ∷ qs) zero h = List·Memᴰ·head refl
-    at-in (q ∷ qs) (suc j) h = List·Memᴰ·tail (at-in qs j (omega arith))
+sorted-at (p ∷ ps) d s zero (suc l) g h = s .0 (getD ps l d) (place-member d ps l (omega arith))
 sorted-at (p ∷ ps) d s (suc k) (suc l) g h = sorted-at ps d (s .1) k l (omega arith) (omega arith)
 
 -- sorted lists with the same members are one list
