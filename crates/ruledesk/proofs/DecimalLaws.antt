@@ -10,15 +10,15 @@ use native.Mathlib.Omega.{arith}
 use borrow.Author.Tests.{lt-ltb, le-ltb}
 use Rattle.bits.proofs.TestLaws.{less}
 use Rattle.io.specs.Digits.{glyph, digits, Fewest}
-use Rattle.ruledesk.specs.Text.{digit, decimalWithin, decimal}
+use Rattle.ruledesk.specs.Text.{digitCode, decimalWithin, decimal}
 
 -- ---- the last digit
 
-within-one : (k n : ℕ) → n < 10 → decimalWithin (suc k) n ≡ digit n ∷ []
+within-one : (k n : ℕ) → n < 10 → decimalWithin (suc k) n ≡ digitCode n ∷ []
 unfolding decimalWithin
 within-one k n h = rw (lt-ltb n 10 h, decimalWithin) refl
 
-within-more : (k n : ℕ) → 10 ≤ n → decimalWithin (suc k) n ≡ decimalWithin k (n / 10) ++ (digit (n % 10) ∷ [])
+within-more : (k n : ℕ) → 10 ≤ n → decimalWithin (suc k) n ≡ decimalWithin k (n / 10) ++ (digitCode (n % 10) ∷ [])
 unfolding decimalWithin
 within-more k n h = rw (le-ltb n 10 h, decimalWithin) refl
 
@@ -30,23 +30,23 @@ within-enough (suc k) (suc m) n h g =
     ⊎-elim (λ (s : n < 10). within-one k n s ∙ sym (within-one m n s))
     (λ (l : 10 ≤ n).
     within-more k n l
-    ∙ ap (λ (t : List ℕ). t ++ (digit (n % 10) ∷ [])) (within-enough k m (n / 10) (omega arith) (omega arith))
+    ∙ ap (λ (t : List ℕ). t ++ (digitCode (n % 10) ∷ [])) (within-enough k m (n / 10) (omega arith) (omega arith))
     ∙ sym (within-more m n l))
     (less n 10)
 
-pub decimal-one : (n : ℕ) → n < 10 → decimal n ≡ digit n ∷ []
+pub decimal-one : (n : ℕ) → n < 10 → decimal n ≡ digitCode n ∷ []
 unfolding decimal
 decimal-one n h = within-one n n h
 
-pub decimal-more : (n : ℕ) → 10 ≤ n → decimal n ≡ decimal (n / 10) ++ (digit (n % 10) ∷ [])
+pub decimal-more : (n : ℕ) → 10 ≤ n → decimal n ≡ decimal (n / 10) ++ (digitCode (n % 10) ∷ [])
 unfolding decimal
 decimal-more n h =
-    within-more n n h ∙ ap (λ (t : List ℕ). t ++ (digit (n % 10) ∷ [])) (within-enough n (suc (n / 10)) (n / 10) (omega arith) (omega arith))
+    within-more n n h ∙ ap (λ (t : List ℕ). t ++ (digitCode (n % 10) ∷ [])) (within-enough n (suc (n / 10)) (n / 10) (omega arith) (omega arith))
 
 -- ---- the fewest digits that hold a number are its decimal text
 
 -- a digit as the kit writes it
-glyph-digit : (d : ℕ) → d < 10 → glyph d ≡ digit d
+glyph-digit : (d : ℕ) → d < 10 → glyph d ≡ digitCode d
 glyph-digit d h = rw (lt-ltb d 10 h) refl
 
 pow-pos : (k : ℕ) → 1 ≤ 10 ^ k

@@ -12,13 +12,13 @@ codes string.[] = []
 codes (string._∷_ c s) = code c ∷ codes s
 
 -- the character of a digit
-abbrev pub digit : ℕ → ℕ
-digit d = code "0" + d
+abbrev pub digitCode : ℕ → ℕ
+digitCode d = code "0" + d
 
 -- a number of at most so many digits, the highest first and never a zero in front of others
 unfoldable pub decimalWithin : ℕ → ℕ → List ℕ
 decimalWithin zero n = []
-decimalWithin (suc most) n = elim (ltb n 10) [ true ↦ digit n ∷ [] | false ↦ decimalWithin most (n / 10) ++ (digit (n % 10) ∷ []) ]
+decimalWithin (suc most) n = elim (ltb n 10) [ true ↦ digitCode n ∷ [] | false ↦ decimalWithin most (n / 10) ++ (digitCode (n % 10) ∷ []) ]
 
 -- n has at most n + 1 digits
 unfoldable pub decimal : ℕ → List ℕ
