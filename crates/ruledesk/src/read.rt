@@ -1,53 +1,77 @@
-// Reading to the end. No contract can say what comes; these are proved safe and to end.
+// Reading to the end. No contract can say what a read brings; what is said is that held bytes stay, that what
+// comes stands behind them, and that the whole length is the sum. Of `read_whole` this says little, since any
+// room could have been read so (`held-some`): it is `read_on` and the loop's invariant that refuse a wrong step.
+ghost use mathlib.Core.Path.{_≡_};
+ghost use Prim.Native.Nat.{_<_};
+ghost use lib.ListN.{length};
+ghost use Rattle.ruledesk.specs.Reading.{countedIn, ReadInto, Reads, WholeRead};
 
 // "an unreadable file counts as 1": what cannot be read to its end counts as one byte, which is no whole
 // rule and no whole header, so that the file is refused with 1 and the input with 8.
 const UNREADABLE: usize = 1;
 
-// What one read gave; no byte at the end.
+// What one read came to: the whole length so far, the end, or a failure.
 enum Got {
-    Bytes(usize),
+    More(usize),
+    End,
     Failure,
 }
 
-fn read_some(fd: i32, part: &mut [u8]) -> Got {
-    let got = libc::read(fd, part);
-    if got < 0 {
+// What `read` answered of `part`, counted in. Nothing has 2^64 bytes: a length that is no `usize` is a failure.
+fn count_in(whole: usize, answer: isize, part: &[u8]) -> Got
+    ensures { λ r. ⌜ r ≡ countedIn whole answer (length (now (part .entry))) ⌝ }
+{
+    if answer < 0 {
         return Got::Failure;
     }
-    Got::Bytes(io::count(got, part))
+    let count = io::count(answer, part);
+    if count == 0 {
+        return Got::End;
+    }
+    if count > usize::MAX - whole {
+        return Got::Failure;
+    }
+    Got::More(whole + count)
 }
 
-// One read into the room that is left. Once it is full, bytes are counted and not kept.
-fn read_on(fd: i32, room: &mut [u8], held: usize) -> Got {
-    if held < room.len() {
-        return read_some(fd, &mut room[held..]);
+// One read into a part that is lent to it. Of no room it would answer 0, as at the end.
+fn read_some(fd: i32, part: &mut [u8], whole: usize) -> Got
+    requires { ⌜ 0 < length (now part) ⌝ }
+    ensures { λ r. ⌜ ReadInto whole (now (part .exit)) r ⌝ }
+{
+    let answer = libc::read(fd, part);
+    count_in(whole, answer, part)
+}
+
+// One read, behind what is held. Once the room is full, bytes are counted and not kept.
+fn read_on(fd: i32, room: &mut [u8], whole: usize) -> Got
+    ensures { λ r. ⌜ Reads (now (room .entry)) whole (now (room .exit)) r ⌝ }
+{
+    if whole < room.len() {
+        return read_some(fd, &mut room[whole..], whole);
     }
     let mut passed = io::large_buffer();
-    read_some(fd, &mut passed)
+    read_some(fd, &mut passed, whole)
 }
 
-// Reads all, keeps the first bytes, as many as there is room for, and answers the whole length. A proved loop
-// has to end, so it counts its turns down, from a number that no run uses up; and no file has 2^64 bytes, so the
-// sum never wraps.
-pub fn read_whole(fd: i32, room: &mut [u8]) -> usize {
+// Reads all, keeps the first bytes, as many as there is room for, and answers the whole length.
+pub fn read_whole(fd: i32, room: &mut [u8]) -> usize
+    ensures { λ r. ⌜ WholeRead (now (room .exit)) r ⌝ }
+{
     let mut whole = 0;
-    let mut turns = u64::MAX;
-    while turns > 0 {
-        let Got::Bytes(count) = read_on(fd, room, whole) else {
-            return UNREADABLE;
-        };
-        if count == 0 {
-            return whole;
+    loop {
+        match read_on(fd, room, whole) {
+            Got::More(next) => whole = next,
+            Got::End => return whole,
+            Got::Failure => return UNREADABLE,
         }
-        whole = std::num::wrapping_add_usize(whole, count);
-        turns -= 1;
     }
-    UNREADABLE
 }
 
 // The same of a file by its name.
-pub fn read_file(name: &[u8], room: &mut [u8]) -> usize {
+pub fn read_file(name: &[u8], room: &mut [u8]) -> usize
+    ensures { λ r. ⌜ WholeRead (now (room .exit)) r ⌝ }
+{
     let fd = os::open_read(name);
     if fd < 0 {
         return UNREADABLE;
