@@ -8,12 +8,13 @@ use Prim.Native.Nat.{ℕ, zero, suc, _+_, _*_, _^_, _≤_, _<_}
 use native.Mathlib.Nat.{eq-zero-or-pos, eq-or-lt-of-le, zero-add, one-mul}
 use native.Mathlib.Omega.{arith}
 use lib.Bits.{bitOr, or-shifted-r}
-use lib.ListN.{length, getD, set, length-map, length-set}
+use lib.ListN.{length, getD, set, length-set}
 use lib.Seq.{getD-set-same, getD-set-other}
 use borrow.Author.Tests.{eq-eqb, ne-eqb}
-use Rattle.bits.specs.Tests.{upFrom}
 use Rattle.bits.specs.Word.{digit, wordOf, nonzero}
-use Rattle.bits.proofs.EachLaws.{up-size, up-snoc}
+use Rattle.bits.specs.Tests.{upFrom}
+use Rattle.bits.proofs.EachLaws.{up-snoc}
+use Rattle.bits.proofs.PlaceLaws.{length-places}
 use Rattle.bits.proofs.WordLaws.{word-small, word-snoc}
 use Rattle.area.specs.Upto.{upto}
 use Rattle.area.specs.Grow.{recordWords, vectorAt}
@@ -47,11 +48,11 @@ flags-more a at n =
     let g : ℕ → Bool = λ w. nonzero (getD a (at + w) 0) in
     ap wordOf (ap (map g) (up-snoc 0 n) ∙ map-append g (upFrom 0 n) ((0 + n) ∷ []))
     ∙ word-snoc (flags a at n) (g (0 + n))
-    ∙ ap₂ (λ (w m : ℕ). wordOf (flags a at n) + digit (g w) * 2 ^ m) (zero-add n) (length-map (upFrom 0 n) g ∙ up-size 0 n)
+    ∙ ap₂ (λ (w m : ℕ). wordOf (flags a at n) + digit (g w) * 2 ^ m) (zero-add n) (length-places g n)
 
 flags-small : (a : List ℕ) (at n : ℕ) → wordOf (flags a at n) < 2 ^ n
 flags-small a at n =
-    subst (λ (m : ℕ). wordOf (flags a at n) < 2 ^ m) (length-map (upFrom 0 n) (λ w. nonzero (getD a (at + w) 0)) ∙ up-size 0 n) (word-small (flags a at n))
+    subst (λ (m : ℕ). wordOf (flags a at n) < 2 ^ m) (length-places (λ w. nonzero (getD a (at + w) 0)) n) (word-small (flags a at n))
 
 flags-none : (a : List ℕ) (at : ℕ) → wordOf (flags a at 0) ≡ 0
 unfolding upFrom wordOf

@@ -2,9 +2,13 @@
 pub mod TestLaws
 pub mod ListLaws
 pub mod EachLaws
+pub mod PlaceLaws
+pub mod StoreLaws
 pub mod NumberLaws
 pub mod PathLaws
 pub mod SamePathLaws
+pub mod DigitLaws
 pub mod MaskLaws
 pub mod WordLaws
+pub mod CodeWordLaws
 pub mod WritingLaws

@@ -1,12 +1,15 @@
--- Laws of lists: a test over a list that was joined, mapped or split by another test, a function over a part of a list, and how a list ends.
+-- Laws of lists: a test over a list that was joined, mapped or split by another test, a function over a part of a list, how a list ends,
+-- and a list of five elements.
 -- Assumes nothing.
-use mathlib.Core.Path.{_≡_, refl, sym, ap, ap₂, _∙_, fun-ext}
+use mathlib.Core.Path.{_≡_, refl, sym, ap, ap₂, subst, _∙_, fun-ext}
 use mathlib.Core.Logic.{_⊎_, inl, inr, ⊎-elim}
 use mathlib.Core.Bool.{Bool, true, false, _&&_, _||_, or-true, or-assoc}
 use mathlib.Core.List.{List, [], _∷_, _++_, map, flatten, append-assoc, head-eq-of-cons-eq, tail-eq-of-cons-eq, concat-ne-nil}
-use Prim.Native.Nat.{ℕ, zero, suc}
+use Prim.Native.Nat.{ℕ, zero, suc, _<_}
+use native.Mathlib.Omega.{arith}
 use lib.Dec.{eqb}
-use lib.ListN.{take, drop}
+use lib.ListN.{length, getD, take, drop}
+use lib.Seq.{drop-cons, drop-length}
 use borrow.Author.Tests.{eqb-true, eqb-false}
 use Rattle.bits.specs.Tests.{any, all}
 use Rattle.bits.proofs.TestLaws.{decided, or-falses}
@@ -132,3 +135,18 @@ module _ {A : Type 0} where
   snoc-same (a ∷ q) (x ∷ r) b c e =
       let s = snoc-same q r b c (tail-eq-of-cons-eq e) in
       (ap₂ (λ (y : A) (m : List A). y ∷ m) (head-eq-of-cons-eq e) (s .0), s .1)
+
+-- ---- a list of five
+
+module _ {A : Type 0} where
+  pub five-elements : (z : A) (l : List A) → length l ≡ 5 → l ≡ getD l 0 z ∷ getD l 1 z ∷ getD l 2 z ∷ getD l 3 z ∷ getD l 4 z ∷ []
+  five-elements z l h =
+      one 0 (omega arith)
+      ∙ ap (λ (m : List A). getD l 0 z ∷ m) (one 1 (omega arith)
+      ∙ ap (λ (m : List A). getD l 1 z ∷ m) (one 2 (omega arith)
+      ∙ ap (λ (m : List A). getD l 2 z ∷ m) (one 3 (omega arith)
+      ∙ ap (λ (m : List A). getD l 3 z ∷ m) (one 4 (omega arith)
+      ∙ ap (λ (m : List A). getD l 4 z ∷ m) (subst (λ (n : ℕ). drop n l ≡ []) h (drop-length l))))))
+    where
+      one : (j : ℕ) → j < 5 → drop j l ≡ getD l j z ∷ drop (suc j) l
+      one j s = drop-cons l j z (omega arith)

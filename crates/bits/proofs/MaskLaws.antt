@@ -2,32 +2,15 @@
 -- the table's at 32 - w + l.
 -- Assumes nothing.
 use mathlib.Core.Path.{_≡_, sym, ap, _∙_}
-use mathlib.Core.List.{map}
-use Prim.Native.Nat.{ℕ, zero, suc, _+_, _-_, _*_, _/_, _%_, _^_, _≤_, _<_}
-use native.Mathlib.Nat.{add-zero, zero-add, add-suc, suc-add, le-of-suc-le-suc, lt-of-lt-of-le, div-add-mod'}
+use Prim.Native.Nat.{ℕ, _+_, _-_, _*_, _/_, _%_, _^_, _≤_, _<_}
+use native.Mathlib.Nat.{lt-of-lt-of-le, div-add-mod'}
 use native.Mathlib.Omega.{arith}
 use lib.Bits.{bitAnd, and-high}
 use lib.Dec.{eqb}
-use lib.ListN.{getD}
 use lib.Pow.{shr-mod, shl-shr, pow-mono}
 use Rattle.bits.specs.Mask.{maskOf}
 use Rattle.bits.specs.Path.{cut}
-use Rattle.bits.specs.Tests.{upFrom}
 use Rattle.bits.proofs.TestLaws.{same-eqb}
-
--- ---- a table that is a rule at each place
-
-rule-from : (f : ℕ → ℕ) (i n k : ℕ) → k < n → getD (map f (upFrom i n)) k 0 ≡ f (i + k)
-unfolding upFrom
-rule-from f i zero k h = absurd (omega arith)
-rule-from f i (suc n) zero h = ap f (sym (add-zero i))
-rule-from f i (suc n) (suc k) h = rule-from f (suc i) n k (le-of-suc-le-suc h) ∙ ap f (suc-add i k ∙ sym (add-suc i k))
-
--- what stands at place k of the rule's list is the rule at k
-pub tabled : (f : ℕ → ℕ) (n k : ℕ) → k < n → getD (map f (upFrom 0 n)) k 0 ≡ f k
-tabled f n k h = rule-from f 0 n k h ∙ ap f (zero-add k)
-
--- ---- a mask cuts
 
 pub mask-cut : (w v l : ℕ) → l ≤ w → w ≤ 32 → v < 2 ^ w → bitAnd v (maskOf (32 - w + l)) ≡ cut w v l
 mask-cut w v l hl hw hv =

@@ -14,7 +14,7 @@ use lib.Seq.{ext-getD}
 use borrow.Author.Tests.{eqb-true, eq-eqb, eqb-false, ltb-true, lt-ltb, not-true}
 use Rattle.bits.specs.Tests.{lowest}
 use Rattle.bits.proofs.TestLaws.{decided, clash, and-trues, and-both, equal, none-at, Told, lowest-told, refuted, three}
-use Rattle.bits.proofs.MaskLaws.{tabled}
+use Rattle.bits.proofs.PlaceLaws.{tabled}
 use Rattle.overlap.specs.Order.{member, apartBelow, isOrder, oldPlace, newPlace, inPlace, wayBack, andThen}
 use Rattle.bits.proofs.EachLaws.{getD-map, up-size, up-at, some-at}
 
@@ -231,7 +231,7 @@ module _ (n : ℕ) where
 module _ (n : ℕ) (o : List ℕ) (O : Order n o) where
   back-old : (i : ℕ) → i < n → oldPlace (wayBack n o) i ≡ newPlace o i
   unfolding wayBack inPlace
-  back-old = tabled (newPlace o) n
+  back-old = tabled (newPlace o) n 0
 
   back-size : length (wayBack n o) ≡ n
   unfolding wayBack
