@@ -20,7 +20,9 @@ use Rattle.rules.specs.Rule.{Rule}
 use Rattle.index.specs.Key.{Key, at, member}
 use Rattle.index.specs.Keys.{grown, grow, stepsFrom, insert, insertAll, inserts, rootsFrom, keys}
 use Rattle.index.specs.Need.{commonWith, longest, fresh, records}
-use Rattle.index.proofs.KeyLaws.{noKey, beyond, further, sameKey-ne, longer, Stands, stands-here, grown-old, grown-new, grown-member, Below, below-beyond, through, insertAll-member, roots-member}
+use Rattle.index.proofs.KeyLaws.{noKey, beyond, further, sameKey-ne, longer, Stands, stands-here}
+use Rattle.index.proofs.GrownLaws.{grown-old, grown-new, grown-member}
+use Rattle.index.proofs.ReachLaws.{Below, below-beyond, through, insertAll-member, roots-member}
 
 -- ---- an earlier path goes through a leading part exactly when that is no longer than the longest common one
 

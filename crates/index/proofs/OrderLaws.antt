@@ -1,13 +1,13 @@
 -- The order of an index's keys: no key stands twice, a key's parent stands before it, and what is put in later comes behind.
 -- Assumes nothing.
-use mathlib.Core.Path.{_≡_, refl, sym, ap, _∙_, subst}
+use mathlib.Core.Path.{_≡_, sym, ap, subst, _∙_}
 use mathlib.Core.Logic.{_⊎_, inl, inr, ⊎-elim}
 use mathlib.Core.Bool.{Bool, true, false, false≢true}
-use mathlib.Core.List.{List, [], _∷_, _++_, map, append-nil, append-assoc, concat-ne-nil}
+use mathlib.Core.List.{List, [], _∷_, _++_, map, concat-ne-nil}
 use Prim.Native.Nat.{ℕ, zero, suc, _+_, _≤_, _<_}
 use native.Mathlib.Nat.{add-zero}
 use native.Mathlib.Omega.{arith}
-use lib.ListN.{length, length-append}
+use lib.ListN.{length}
 use Rattle.bits.specs.Path.{Path}
 use Rattle.bits.specs.Tests.{any}
 use Rattle.bits.proofs.TestLaws.{decided, clash, or-falses}
@@ -16,7 +16,8 @@ use Rattle.rules.specs.Rule.{Rule}
 use Rattle.index.specs.Key.{Key, at, sameKey, member, placeFrom, pathsIn}
 use Rattle.index.specs.Keys.{grown, grow, stepsFrom, insert, insertAll, ruleInserts, inserts, rootsFrom, keys}
 use Rattle.index.specs.Image.{child}
-use Rattle.index.proofs.KeyLaws.{further, further-same, sameKey-refl, Stands, stands-append, stands-snoc, stands-member, place-in, place-out, place-here, place-later, grown-old, grown-new, grown-keeps, grow-keeps, insertAll-keeps, grow-at, grown-member, roots-at, Rooted, roots-rooted}
+use Rattle.index.proofs.KeyLaws.{further, sameKey-refl, further-same, Stands, stands-append, stands-snoc, stands-member, place-here, place-later, place-in, place-out}
+use Rattle.index.proofs.GrownLaws.{grown-old, grown-new, grown-keeps, grow-keeps, insertAll-keeps, grow-at, grown-member, roots-at, Rooted, roots-rooted}
 use Rattle.index.proofs.CountLaws.{length-roots}
 
 -- ---- each key once
@@ -209,40 +210,3 @@ module _ (k : Key) where
       ⊎-elim (place-old n ks (l ∷ []))
       (λ e. place-new n ks (l ∷ []) e ∙ place-later (n + length ks) k l [] other ∙ sym (place-out k n ks e))
       (decided (member k ks))
-
--- ---- more rules at the end
-
-pub insertAll-append : (ks l m : List Key) → insertAll ks (l ++ m) ≡ insertAll (insertAll ks l) m
-unfolding insertAll
-insertAll-append ks [] m = refl
-insertAll-append ks (k ∷ l) m = insertAll-append (insert ks k) l m
-
-pub inserts-append : (n : ℕ) (rules more : List Rule) → inserts n (rules ++ more) ≡ inserts n rules ++ inserts n more
-unfolding inserts
-inserts-append n [] more = refl
-inserts-append n (r ∷ rules) more =
-    rw (inserts-append n rules more) (sym (append-assoc (ruleInserts 0 n r) (inserts n rules) (inserts n more)))
-
-pub keys-append : (n : ℕ) (rules more : List Rule) → keys n (rules ++ more) ≡ insertAll (keys n rules) (inserts n more)
-unfolding keys
-keys-append n rules more = rw (inserts-append n rules more) (insertAll-append (rootsFrom 0 n) (inserts n rules) (inserts n more))
-
--- one list is another with more behind
-abbrev pub Extends : List Key → List Key → Type 0
-Extends ks longer = (extra : List Key) × (longer ≡ ks ++ extra)
-
-pub extends-length : (ks longer : List Key) → Extends ks longer → length ks ≤ length longer
-extends-length ks longer x = rw (x .1) (omega (arith, length-append ks (x .0)))
-
-extends-snoc : (start ks : List Key) (k : Key) → Extends start ks → Extends start (ks ++ (k ∷ []))
-extends-snoc start ks k x = (x .0 ++ (k ∷ []), rw (x .1) (append-assoc start (x .0) (k ∷ [])))
-
-pub grow-extends : (ks new : List Key) → Extends ks (grow ks new)
-grow-extends ks new = grow-keeps (Extends ks) (λ l k e. extends-snoc ks l k) ks new ([], sym (append-nil ks))
-
-pub insertAll-extends : (ks new : List Key) → Extends ks (insertAll ks new)
-insertAll-extends ks new = insertAll-keeps (Extends ks) (λ l k e. extends-snoc ks l k) ks new ([], sym (append-nil ks))
-
--- the records that were there stay as they stood (so that the last rules' records can be taken off again)
-pub keys-extend : (n : ℕ) (rules more : List Rule) → Extends (keys n rules) (keys n (rules ++ more))
-keys-extend n rules more = rw (keys-append n rules more) (insertAll-extends (keys n rules) (inserts n more))

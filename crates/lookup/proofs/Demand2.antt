@@ -29,7 +29,7 @@ use Rattle.index.specs.Key.{Key, hit}
 use Rattle.index.specs.Shape.{deskShape}
 use Rattle.index.specs.Image.{image}
 use Rattle.index.specs.Need.{need}
-use Rattle.index.proofs.KeyLaws.{keys-root}
+use Rattle.index.proofs.GrownLaws.{keys-root}
 use Rattle.lookup.specs.Said.{actionValues, matchSaid, noMatchSaid}
 use Rattle.lookup.specs.Answer.{winnerSaid, rulesAnswer, answerSaid}
 use Rattle.lookup.specs.Scan.{found}
