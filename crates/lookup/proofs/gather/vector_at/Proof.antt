@@ -6,9 +6,10 @@ use native.Mathlib.Omega.{arith}
 use lib.ListN.{length, take, length-set}
 use borrow.Author.Needs.{needs}
 use denote.Ref.{now}
+use Rattle.bits.proofs.StoreLaws.{fill-more, fill-done}
 use Rattle.index.specs.Shape.{deskShape}
 use Rattle.lookup.specs.Walk.{vectorAt}
-use Rattle.lookup.proofs.TurnLaws.{fill-more, fill-done, vector-length, vector-word}
+use Rattle.lookup.proofs.ReadLaws.{vector-length, vector-read}
 use Rattle.lookup.proofs.gather.vector_at.Statement.{statement}
 use Rattle.lookup.proofs.gather.vector_at.Tie as tie
 
@@ -30,7 +31,7 @@ loop-again c =
     let whole = vector-length area (a .row) (k .before .pre) in (
       omega arith,
       length-set (l .vector) (l .b) _ ∙ l .inv .1,
-      fill-more 0 (vectorAt deskShape area (a .row)) (l .vector) (l .b) _ (omega arith) (omega arith) (l .inv .2) (sym (vector-word area (a .row) (l .b) (omega arith))),
+      fill-more 0 (vectorAt deskShape area (a .row)) (l .vector) (l .b) _ (omega arith) (omega arith) (l .inv .2) (sym (vector-read area (a .row) (l .b) (omega arith))),
     )
 
 returns : tie.Need-returns Inv-loop μ-loop

@@ -9,9 +9,9 @@ use lib.Count.{trailingZeros}
 use borrow.Author.Needs.{needs}
 use Rattle.bits.specs.Word.{bit, andAll}
 use Rattle.index.specs.Shape.{deskShape}
-use Rattle.lookup.specs.Scan.{found, meet, scan}
+use Rattle.lookup.specs.Scan.{found, scan, meet}
 use Rattle.lookup.specs.InCode.{placed, scanned}
-use Rattle.lookup.proofs.TurnLaws.{counted, counted-none, block-past, block-false, block-wins, blocks-done}
+use Rattle.lookup.proofs.BlockTurns.{counted, counted-none, block-past, block-false, block-wins, blocks-done}
 use Rattle.lookup.proofs.scan.try_blocks.Statement.{statement}
 use Rattle.lookup.proofs.scan.try_blocks.Tie as tie
 

@@ -5,16 +5,17 @@ use mathlib.Core.Bool.{Bool, cond}
 use mathlib.Core.List.{List}
 use mathlib.Core.Option.{none, some}
 use Prim.Native.Nat.{ℕ}
-use borrow.Author.Needs.{needs}
 use borrow.Author.Tests.{not-true, not-false}
+use borrow.Author.Needs.{needs}
 use denote.Ref.{now}
 use Rattle.bits.specs.Word.{bit, andAll}
 use Rattle.rules.specs.Refusal.{said}
 use Rattle.index.specs.Shape.{deskShape}
-use Rattle.lookup.specs.Scan.{meet, scan}
+use Rattle.lookup.specs.Scan.{scan, meet}
 use Rattle.lookup.specs.Look.{foundSaid, stepsSaid}
 use Rattle.lookup.specs.InCode.{reachedAll, lookedSaid}
-use Rattle.lookup.proofs.TurnLaws.{keysOf, steps-none, steps-some}
+use Rattle.lookup.proofs.ReadLaws.{steps-none, steps-some}
+use Rattle.lookup.proofs.FieldTurns.{keysOf}
 use Rattle.lookup.proofs.steps.go_through.Statement.{statement}
 use Rattle.lookup.proofs.steps.go_through.Tie as tie
 
