@@ -8,7 +8,7 @@ use Rattle.bits.specs.Number.{Bytes}
 use Rattle.rules.specs.Table.{rulesOf, Accepted}
 use Rattle.rules.specs.Header.{headerSize, headerValues}
 use Rattle.rules.specs.Match.{falseBlocks}
-use Rattle.index.specs.Shape.{deskShape}
+use Rattle.area.specs.Shape.{deskShape}
 use Rattle.index.specs.Image.{image}
 use Rattle.index.specs.Need.{need}
 use Rattle.lookup.specs.declared.Looked.{Looked}

@@ -18,21 +18,21 @@ use Rattle.bits.proofs.EachLaws.{listed}
 use Rattle.bits.proofs.PlaceLaws.{places-agree}
 use Rattle.rules.specs.Rule.{Rule}
 use Rattle.rules.specs.Table.{ruleCount, rulesOf}
-use Rattle.area.specs.Grow.{recordWords, vectorAt, State, mk, Kids, Roomy}
-use Rattle.area.specs.Hand.{blocks, vectorWord, childWord, handed}
+use Rattle.area.specs.Shape.{blocks, deskShape, recordWords, vectorStart}
+use Rattle.area.specs.Grow.{State, mk, Kids, Roomy}
+use Rattle.area.specs.Hand.{vectorWord, childWord, handed}
 use Rattle.area.specs.Sums.{sumAt, summed}
 use Rattle.area.proofs.HandLaws.{Forest, sweep-kids, sweep-length, sweep-beyond}
 use Rattle.area.proofs.SumLaws.{sum-word, summed-length, summed-other, summed-beyond, summed-at}
 use Rattle.index.specs.Key.{Key}
 use Rattle.index.specs.Keys.{keys}
-use Rattle.index.specs.Shape.{deskShape}
 use Rattle.index.specs.Image.{child, vector, recordOf, image}
 use Rattle.index.specs.Need.{records, need}
 use Rattle.index.specs.Steps.{AllSound, allIn}
 use Rattle.index.proofs.KeyLaws.{stands-here}
 use Rattle.index.proofs.CountLaws.{records-law}
 use Rattle.index.proofs.VectorLaws.{length-vector}
-use Rattle.index.proofs.ImageLaws.{one-level-sized, length-image, image-word}
+use Rattle.index.proofs.ImageLaws.{desk-sized, length-image, image-word}
 use Rattle.index.proofs.MarkLaws.{marksTo, own-words}
 use Rattle.index.proofs.Recorded.{Between}
 use Rattle.index.proofs.Growth.{all-between}
@@ -69,7 +69,7 @@ module _ (table : List ℕ) (sound : AllSound table) (few : ruleCount table ≤ 
   abbrev handedArea : List ℕ
   handedArea = handed count grownArea
 
-  vectors : (i : ℕ) → i < count → (v : ℕ) → v < 8 → vectorWord handedArea i v ≡ getD (vector deskShape rules (key i)) v 0
+  vectors : (i : ℕ) → i < count → (v : ℕ) → v < blocks → vectorWord handedArea i v ≡ getD (vector deskShape rules (key i)) v 0
   vectors =
       whole-vector (ruleCount table) rules (marksTo table (ruleCount table)) a₀ grownArea (between .recorded) (omega (arith, whole))
       (λ k field. own-words k field table)
@@ -79,14 +79,14 @@ module _ (table : List ℕ) (sound : AllSound table) (few : ruleCount table ≤ 
 
   -- ---- the aggregates
 
-  aggregate-word : (i : ℕ) → i < count → sumAt handedArea (recordWords * i + vectorAt) blocks ≡ wordOf (take 32 (map nonzero (vector deskShape rules (key i))))
+  aggregate-word : (i : ℕ) → i < count → sumAt handedArea (recordWords * i + vectorStart) blocks ≡ wordOf (take 32 (map nonzero (vector deskShape rules (key i))))
   aggregate-word i h =
       let words = vector deskShape rules (key i) in
       let eight = length-vector deskShape rules (key i) in
-      sum-word handedArea (recordWords * i + vectorAt) blocks
+      sum-word handedArea (recordWords * i + vectorStart) blocks
       ∙ ap wordOf
-      (places-agree (λ (w : ℕ). nonzero (vectorWord handedArea i w)) (λ (w : ℕ). nonzero (getD words w 0)) 8 (λ w small. ap nonzero (vectors i h w small))
-      ∙ sym (map-map (λ (w : ℕ). getD words w 0) nonzero (upFrom 0 8))
+      (places-agree (λ (w : ℕ). nonzero (vectorWord handedArea i w)) (λ (w : ℕ). nonzero (getD words w 0)) blocks (λ w small. ap nonzero (vectors i h w small))
+      ∙ sym (map-map (λ (w : ℕ). getD words w 0) nonzero (upFrom 0 blocks))
       ∙ ap (map nonzero) (ap (λ (n : ℕ). map (λ (w : ℕ). getD words w 0) (upFrom 0 n)) (sym eight) ∙ listed words 0)
       ∙ sym (take-all 32 (map nonzero words) (omega (arith, length-map words nonzero, eight))))
 
@@ -107,24 +107,24 @@ module _ (table : List ℕ) (sound : AllSound table) (few : ruleCount table ≤ 
   record-word i (suc (suc zero)) h hr = summed-at i count handedArea h (omega (arith, handed-length, whole)) ∙ aggregate-word i h
   record-word i (suc (suc (suc v))) h hr =
       ap (λ (x : ℕ). getD builtArea x 0) (omega arith)
-      ∙ summed-other (recordWords * i + vectorAt + v) handedArea (λ k e. omega arith) count
+      ∙ summed-other (recordWords * i + vectorStart + v) handedArea (λ k e. omega arith) count
       ∙ vectors i h v (omega arith)
 
   inside-word : (j : ℕ) → j < recordWords * count → getD builtArea j 0 ≡ getD (image deskShape rules ++ drop (need deskShape rules) a₀) j 0
   inside-word j h =
-      let i : ℕ = j / 11 in
-      let r : ℕ = j % 11 in
+      let i : ℕ = j / recordWords in
+      let r : ℕ = j % recordWords in
       let high : i < count = omega arith in
       let low : r < recordWords = omega arith in
       ap (λ (x : ℕ). getD builtArea x 0) (omega arith)
       ∙ record-word i r high low
-      ∙ sym (image-word deskShape (one-level-sized 5 32 8) rules i (key i) (stands-here ks i high) (drop (need deskShape rules) a₀) r low)
+      ∙ sym (image-word deskShape desk-sized rules i (key i) (stands-here ks i high) (drop (need deskShape rules) a₀) r low)
       ∙ ap (λ (x : ℕ). getD (image deskShape rules ++ drop (need deskShape rules) a₀) x 0) (omega arith)
 
   beyond-word : (j : ℕ) → recordWords * count ≤ j → getD builtArea j 0 ≡ getD (image deskShape rules ++ drop (need deskShape rules) a₀) j 0
   beyond-word j h =
       let N = need deskShape rules in
-      let size : length (image deskShape rules) ≡ N = length-image deskShape (one-level-sized 5 32 8) rules in
+      let size : length (image deskShape rules) ≡ N = length-image deskShape desk-sized rules in
       summed-beyond j count handedArea h
       ∙ sweep-beyond grownArea count trees j h count (le-refl count)
       ∙ between .recorded .rest j h
@@ -138,7 +138,7 @@ module _ (table : List ℕ) (sound : AllSound table) (few : ruleCount table ≤ 
   built : builtArea ≡ image deskShape rules ++ drop (need deskShape rules) a₀
   built =
       let N = need deskShape rules in
-      let size : length (image deskShape rules) ≡ N = length-image deskShape (one-level-sized 5 32 8) rules in
+      let size : length (image deskShape rules) ≡ N = length-image deskShape desk-sized rules in
       ext-getD 0 builtArea (image deskShape rules ++ drop N a₀)
       (omega (arith, summed-length count handedArea, handed-length, length-append (image deskShape rules) (drop N a₀), length-drop N a₀, size, room))
       (λ j h. ⊎-elim (inside-word j) (beyond-word j) (less j (recordWords * count)))

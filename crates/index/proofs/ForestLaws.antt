@@ -11,7 +11,7 @@ use Rattle.bits.specs.Word.{digit}
 use Rattle.bits.proofs.TestLaws.{decided, less}
 use Rattle.bits.proofs.DigitLaws.{some-bit}
 use Rattle.rules.specs.Rule.{Rule}
-use Rattle.area.specs.Grow.{recordWords}
+use Rattle.area.specs.Shape.{recordWords}
 use Rattle.area.specs.Hand.{childWord}
 use Rattle.area.proofs.HandLaws.{Forest}
 use Rattle.index.specs.Key.{Key, at, member}

@@ -10,8 +10,9 @@ use lib.ListN.{length, getD, take, drop, take-append-drop}
 use lib.Seq.{take-suc, take-length}
 use Rattle.bits.specs.Path.{Path, bitOf}
 use Rattle.bits.specs.Word.{digit}
+use Rattle.area.specs.Shape.{recordWords}
 use Rattle.area.specs.Upto.{upto}
-use Rattle.area.specs.Grow.{recordWords, State, down, walked}
+use Rattle.area.specs.Grow.{State, down, walked}
 use Rattle.index.specs.Key.{Key, at}
 use Rattle.index.specs.Keys.{grown, grow, stepsFrom, insert}
 use Rattle.index.proofs.KeyLaws.{further}

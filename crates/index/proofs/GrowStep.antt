@@ -12,7 +12,8 @@ use lib.Seq.{getD-set-same, getD-set-other, getD-append-seam}
 use Rattle.bits.specs.Word.{digit}
 use Rattle.bits.proofs.TestLaws.{decided, clash, or-falses, refuted}
 use Rattle.bits.proofs.DigitLaws.{digit-small, digit-same}
-use Rattle.area.specs.Grow.{recordWords, vectorAt, zeroed, State, made, kid, down}
+use Rattle.area.specs.Shape.{recordWords, vectorStart}
+use Rattle.area.specs.Grow.{zeroed, State, made, kid, down}
 use Rattle.area.proofs.ZeroLaws.{length-zeroed, zeroed-below, zeroed-inside, zeroed-above}
 use Rattle.area.proofs.GrowLaws.{down-new, down-old}
 use Rattle.index.specs.Key.{Key, at, sameKey, member, placeFrom}
@@ -117,11 +118,11 @@ module _ (n : ℕ) (a₀ : List ℕ) (ks : List Key) (marks : List Mark) (k : Ke
           (stands-snoc ks z i l st);
       words = λ i l v st h.
           ⊎-elim
-          (λ o. below (recordWords * i + vectorAt + v) (omega (arith, o .inside)) (λ q. omega (arith, digit-small b)) ∙ w .recorded .words i l v o h)
+          (λ o. below (recordWords * i + vectorStart + v) (omega (arith, o .inside)) (λ q. omega (arith, digit-small b)) ∙ w .recorded .words i l v o h)
           (λ e.
-          (λ t. getD area (recordWords * e .0 t + vectorAt + v) 0)
+          (λ t. getD area (recordWords * e .0 t + vectorStart + v) 0)
           ∙ ap (λ (j : ℕ). getD area j 0) (omega arith)
-          ∙ zeros (vectorAt + v) (omega arith)
+          ∙ zeros (vectorStart + v) (omega arith)
           ∙ sym (no-marks n marks l v (w .sound .marked l (ap (λ (x : Key). member x ks) (e .1) ∙ new))))
           (stands-snoc ks z i l st);
       rest = λ j h.

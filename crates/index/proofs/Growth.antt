@@ -21,8 +21,9 @@ use Rattle.rules.specs.Table.{ruleCount, recordAt, rulesOf, SoundRule}
 use Rattle.rules.specs.Match.{ruleAt}
 use Rattle.rules.proofs.RuleLaws.{length-fits}
 use Rattle.rules.proofs.MatchLaws.{rules-size}
+use Rattle.area.specs.Shape.{recordWords, vectorStart}
 use Rattle.area.specs.Upto.{upto}
-use Rattle.area.specs.Grow.{recordWords, vectorAt, zeroed, State, mk, walked, inserted}
+use Rattle.area.specs.Grow.{zeroed, State, mk, walked, inserted}
 use Rattle.area.proofs.ZeroLaws.{length-zeroed, zeroed-inside, zeroed-above}
 use Rattle.index.specs.Key.{Key, at}
 use Rattle.index.specs.Keys.{insert, insertAll, ruleInserts, inserts, rootsFrom, keys}
@@ -178,7 +179,7 @@ module _ (table : List ℕ) (sound : AllSound table) (few : ruleCount table ≤ 
             long = length-zeroed 0 (5 * recordWords) a₀ (omega arith) big;
             kids = λ i k b st. root-word (recordWords * i + digit b) (omega (arith, st .inside, digit-small b, five)) ∙ sym (root-childless k b);
             words = λ i k v st h.
-                root-word (recordWords * i + vectorAt + v) (omega (arith, st .inside, five)) ∙ sym (no-marks n [] k v (λ r. unfold markedAt any in refl));
+                root-word (recordWords * i + vectorStart + v) (omega (arith, st .inside, five)) ∙ sym (no-marks n [] k v (λ r. unfold markedAt any in refl));
             rest = λ j h. zeroed-above 0 (5 * recordWords) j a₀ (omega arith) big (omega (arith, five));
           };
           next = sym five;

@@ -13,9 +13,9 @@ use Rattle.bits.specs.Word.{digit, pack}
 use Rattle.bits.proofs.EachLaws.{getD-map}
 use Rattle.bits.proofs.WordLaws.{length-aggregate}
 use Rattle.rules.specs.Rule.{Rule}
+use Rattle.area.specs.Shape.{Shape, width, oneLevel, deskShape}
 use Rattle.index.specs.Key.{Key, hit}
 use Rattle.index.specs.Keys.{keys}
-use Rattle.index.specs.Shape.{Shape, width, oneLevel}
 use Rattle.index.specs.Image.{child, flat, vector, recordOf, image}
 use Rattle.index.specs.Need.{need}
 use Rattle.index.proofs.KeyLaws.{noKey, Stands}
@@ -85,6 +85,9 @@ Sized S = (h : List Bool) → length (S .summary (pack (S .size) (S .blocks) h))
 
 pub one-level-sized : (fields size blocks : ℕ) → Sized (oneLevel fields size blocks)
 one-level-sized fields size blocks h = length-aggregate size 1 (pack size blocks h)
+
+pub desk-sized : Sized deskShape
+desk-sized = one-level-sized (deskShape .fields) (deskShape .size) (deskShape .blocks)
 
 module _ (S : Shape) (sized : Sized S) (rules : List Rule) where
   pub length-summary : (k : Key) → length (S .summary (vector S rules k)) ≡ S .summaries

@@ -24,9 +24,9 @@ use Rattle.rules.specs.Rule.{Rule, ruleOf}
 use Rattle.rules.specs.Table.{ruleCount, recordAt, rulesOf}
 use Rattle.rules.specs.Match.{ruleAt}
 use Rattle.rules.proofs.MatchLaws.{rules-at}
+use Rattle.area.specs.Shape.{blocks, deskShape}
 use Rattle.index.specs.Key.{Key, sameKey}
 use Rattle.index.specs.Keys.{ruleInserts}
-use Rattle.index.specs.Shape.{deskShape}
 use Rattle.index.proofs.KeyLaws.{sameKey-refl}
 use Rattle.index.proofs.ReachLaws.{passes, rule-passes}
 use Rattle.index.proofs.VectorLaws.{own, ownVector}
@@ -46,17 +46,17 @@ markedAt marks k i = any (λ (m : Mark). eqb (m .rule) i && sameKey (m .key) k) 
 
 -- the vector words that the marks of n rules make at a key
 unfoldable pub markWords : ℕ → List Mark → Key → List ℕ
-markWords n marks k = pack 32 8 (map (markedAt marks k) (upFrom 0 n))
+markWords n marks k = pack 32 blocks (map (markedAt marks k) (upFrom 0 n))
 
-pub length-words : (n : ℕ) (marks : List Mark) (k : Key) → length (markWords n marks k) ≡ 8
+pub length-words : (n : ℕ) (marks : List Mark) (k : Key) → length (markWords n marks k) ≡ blocks
 unfolding markWords
-length-words n marks k = length-pack 32 8 (map (markedAt marks k) (upFrom 0 n))
+length-words n marks k = length-pack 32 blocks (map (markedAt marks k) (upFrom 0 n))
 
 -- a key with no mark has no bit
 pub no-marks : (n : ℕ) (marks : List Mark) (k : Key) (v : ℕ) → ((i : ℕ) → markedAt marks k i ≡ false) → getD (markWords n marks k) v 0 ≡ 0
 unfolding markWords
 no-marks n marks k v none =
-    ap (λ (l : List Bool). getD (pack 32 8 l) v 0) (map-ext (markedAt marks k) (λ i. false) none (upFrom 0 n)) ∙ pack-none 32 8 (upFrom 0 n) v
+    ap (λ (l : List Bool). getD (pack 32 blocks l) v 0) (map-ext (markedAt marks k) (λ i. false) none (upFrom 0 n)) ∙ pack-none 32 blocks (upFrom 0 n) v
 
 -- ---- one mark more
 
@@ -73,7 +73,7 @@ module _ (marks : List Mark) (i : ℕ) (k : Key) where
   pub mark-elsewhere : (n : ℕ) (l : Key) → sameKey k l ≡ false → markWords n (withMark marks i k) l ≡ markWords n marks l
   unfolding markWords
   mark-elsewhere n l e =
-      ap (pack 32 8)
+      ap (pack 32 blocks)
       (map-ext (markedAt (withMark marks i k) l) (markedAt marks l)
       (λ r. mark-more l r ∙ ap (λ t. markedAt marks l r || (eqb i r && t)) e ∙ ap (λ t. markedAt marks l r || t) (and-false (eqb i r)) ∙ or-false (markedAt marks l r))
       (upFrom 0 n))
@@ -90,8 +90,8 @@ module _ (marks : List Mark) (i : ℕ) (k : Key) where
       → markWords n (withMark marks i k) k ≡ set (markWords n marks k) (i / 32) (bitOr (getD (markWords n marks k) (i / 32) 0) (2 ^ (i % 32)))
   unfolding markWords
   mark-here n h small =
-      ap (pack 32 8) (mark-set n h)
-      ∙ pack-set 32 (omega arith) 8 (map (markedAt marks k) (upFrom 0 n)) i (omega (arith, length-places (markedAt marks k) n)) (omega arith)
+      ap (pack 32 blocks) (mark-set n h)
+      ∙ pack-set 32 (omega arith) blocks (map (markedAt marks k) (upFrom 0 n)) i (omega (arith, length-places (markedAt marks k) n)) (omega arith)
 
 -- ---- the marks of a table's rules
 
@@ -148,7 +148,7 @@ module _ (k : Key) (field : k .field < 5) where
     unfolding markWords ownVector
     own-words =
         let n = ruleCount table in
-        ap (pack 32 8)
+        ap (pack 32 blocks)
         (places-agree (markedAt (marksTo table n) k) (λ (p : ℕ). own k (ruleOf (recordAt table p))) n
         (λ p small. marks-own n p small ∙ ap (own k) (rules-at table p small))
         ∙ sym (unfold rulesOf in map-map (λ p. ruleOf (recordAt table p)) (own k) (upFrom 0 n)))

@@ -7,7 +7,8 @@ use mathlib.Core.List.{List}
 use Prim.Native.Nat.{ℕ, _+_, _*_, _≤_, _<_}
 use lib.ListN.{length, getD}
 use Rattle.bits.specs.Word.{digit}
-use Rattle.area.specs.Grow.{recordWords, vectorAt, State}
+use Rattle.area.specs.Shape.{blocks, recordWords, vectorStart}
+use Rattle.area.specs.Grow.{State}
 use Rattle.index.specs.Key.{Key, member}
 use Rattle.index.specs.Image.{child}
 use Rattle.index.proofs.KeyLaws.{Stands}
@@ -26,7 +27,7 @@ pub record Sound5 (ks : List Key) (marks : List Mark) : Type 0 where
 pub record Recorded (n : ℕ) (a₀ : List ℕ) (ks : List Key) (marks : List Mark) (a : List ℕ) : Type 0 where
   pub long : length a ≡ length a₀
   pub kids : (i : ℕ) (k : Key) (b : Bool) → Stands ks i k → getD a (recordWords * i + digit b) 0 ≡ child ks k b
-  pub words : (i : ℕ) (k : Key) (v : ℕ) → Stands ks i k → v < 8 → getD a (recordWords * i + vectorAt + v) 0 ≡ getD (markWords n marks k) v 0
+  pub words : (i : ℕ) (k : Key) (v : ℕ) → Stands ks i k → v < blocks → getD a (recordWords * i + vectorStart + v) 0 ≡ getD (markWords n marks k) v 0
   pub rest : (j : ℕ) → recordWords * length ks ≤ j → getD a j 0 ≡ getD a₀ j 0
 
 -- a walk stands at the record of a key

@@ -11,12 +11,11 @@ use lib.ListN.{length, getD}
 use Rattle.bits.specs.Word.{digit}
 use Rattle.bits.proofs.DigitLaws.{digit-small, some-bit}
 use Rattle.rules.specs.Rule.{Rule}
-use Rattle.area.specs.Grow.{recordWords}
+use Rattle.area.specs.Shape.{blocks, deskShape, recordWords}
 use Rattle.area.specs.Hand.{vectorWord, childWord, handed}
 use Rattle.area.proofs.HandLaws.{Forest, sweep-root, sweep-child}
 use Rattle.index.specs.Key.{Key, at}
 use Rattle.index.specs.Keys.{keys}
-use Rattle.index.specs.Shape.{deskShape}
 use Rattle.index.specs.Image.{child, vector}
 use Rattle.index.proofs.KeyLaws.{further, further-root, root-or-further, Stands, stands-here, stands-same}
 use Rattle.index.proofs.OrderLaws.{keys-once, place-of, keys-field, keys-parented}
@@ -44,10 +43,10 @@ module _ (n : ℕ) (rules : List Rule) (marks : List Mark) (a₀ a : List ℕ) (
   handedArea = handed count a
 
   -- a record's own words
-  own : (i : ℕ) (k : Key) → Stands ks i k → (v : ℕ) → v < 8 → vectorWord a i v ≡ getD (ownVector deskShape rules k) v 0
+  own : (i : ℕ) (k : Key) → Stands ks i k → (v : ℕ) → v < blocks → vectorWord a i v ≡ getD (ownVector deskShape rules k) v 0
   own i k stands v h = recorded .words i k v stands h ∙ ap (λ (l : List ℕ). getD l v 0) (owned k (keys-field 5 rules i k stands))
 
-  root-vector : (i f : ℕ) → Stands ks i (at f []) → (v : ℕ) → v < 8 → vectorWord handedArea i v ≡ getD (vector deskShape rules (at f [])) v 0
+  root-vector : (i f : ℕ) → Stands ks i (at f []) → (v : ℕ) → v < blocks → vectorWord handedArea i v ≡ getD (vector deskShape rules (at f [])) v 0
   root-vector i f stands v h =
       sweep-root a count trees i v h
       (λ m b hm hb l e.
@@ -58,7 +57,7 @@ module _ (n : ℕ) (rules : List Rule) (marks : List Mark) (a₀ a : List ℕ) (
       ∙ own i (at f []) stands v h
       ∙ ap (λ (l : List ℕ). getD l v 0) (sym (vector-root deskShape rules f))
 
-  child-vector : (i j : ℕ) (k : Key) (b : Bool) → Stands ks i (further k b) → Stands ks j k → (v : ℕ) → v < 8
+  child-vector : (i j : ℕ) (k : Key) (b : Bool) → Stands ks i (further k b) → Stands ks j k → (v : ℕ) → v < blocks
       → vectorWord handedArea j v ≡ getD (vector deskShape rules k) v 0 → vectorWord handedArea i v ≡ getD (vector deskShape rules (further k b)) v 0
   unfolding child
   child-vector i j k b stands parent v h e =
@@ -72,7 +71,7 @@ module _ (n : ℕ) (rules : List Rule) (marks : List Mark) (a₀ a : List ℕ) (
       ∙ sym (vector-word deskShape rules k b v h)
 
   -- from the roots down: a parent has a lower number
-  vector-below : (m i : ℕ) → i < m → (k : Key) → Stands ks i k → (v : ℕ) → v < 8 → vectorWord handedArea i v ≡ getD (vector deskShape rules k) v 0
+  vector-below : (m i : ℕ) → i < m → (k : Key) → Stands ks i k → (v : ℕ) → v < blocks → vectorWord handedArea i v ≡ getD (vector deskShape rules k) v 0
   vector-below zero i h k stands v hv = absurd (omega arith)
   vector-below (suc m) i h k stands v hv =
       ⊎-elim
@@ -85,5 +84,5 @@ module _ (n : ℕ) (rules : List Rule) (marks : List Mark) (a₀ a : List ℕ) (
       ∙ ap (λ (l : Key). getD (vector deskShape rules l) v 0) (sym (s .2)))
       (root-or-further k)
 
-  pub whole-vector : (i : ℕ) → i < count → (v : ℕ) → v < 8 → vectorWord handedArea i v ≡ getD (vector deskShape rules (key i)) v 0
+  pub whole-vector : (i : ℕ) → i < count → (v : ℕ) → v < blocks → vectorWord handedArea i v ≡ getD (vector deskShape rules (key i)) v 0
   whole-vector i h = vector-below count i h (key i) (stands-here ks i h)

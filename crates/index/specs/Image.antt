@@ -5,9 +5,9 @@ use mathlib.Core.List.{List, [], _∷_, _++_, map}
 use Prim.Native.Nat.{ℕ}
 use Rattle.bits.specs.Word.{pack}
 use Rattle.rules.specs.Rule.{Rule}
+use Rattle.area.specs.Shape.{Shape}
 use Rattle.index.specs.Key.{Key, at, placeFrom, hit}
 use Rattle.index.specs.Keys.{keys}
-use Rattle.index.specs.Shape.{Shape}
 
 -- "Child 0 means no child": the number of the record one bit further, or 0
 unfoldable pub child : List Key → Key → Bool → ℕ

@@ -14,9 +14,8 @@ use Rattle.bits.proofs.PlaceLaws.{tabled}
 use Rattle.bits.proofs.StoreLaws.{either-way}
 use Rattle.rules.specs.Field.{fields, fieldAt, valueIn}
 use Rattle.rules.specs.Header.{headerValues}
-use Rattle.area.specs.Grow.{recordWords}
+use Rattle.area.specs.Shape.{deskShape, recordWords}
 use Rattle.index.specs.Key.{Key, at}
-use Rattle.index.specs.Shape.{deskShape}
 use Rattle.lookup.specs.Walk.{walk, ends}
 use Rattle.lookup.specs.Look.{keysFrom, headerKeys, widths}
 use Rattle.lookup.specs.InCode.{AllInside}

@@ -1,7 +1,7 @@
 -- Over an area that holds the index of some rules, for any lawful shape, the steps find the lowest rule that all keys hit, and the blocks that
 -- deceive before it.
 -- Assumes nothing.
-use mathlib.Core.Path.{_≡_, refl, sym, ap, ap₂, fun-ext, _∙_}
+use mathlib.Core.Path.{_≡_, refl, sym, ap, ap₂, _∙_, fun-ext}
 use mathlib.Core.Logic.{⊎-elim}
 use mathlib.Core.Bool.{Bool, true, not, _&&_}
 use mathlib.Core.List.{List, [], _∷_, map}
@@ -10,16 +10,16 @@ use Prim.Native.Nat.{ℕ, zero, suc, _+_, _*_, _≤_, _<_}
 use native.Mathlib.Omega.{arith}
 use lib.Bits.{bitAnd}
 use lib.ListN.{length, getD, take, drop, replicate, length-map, length-take}
-use Rattle.bits.specs.Tests.{any, all, count}
 use Rattle.bits.specs.Word.{wordOf, pack, nonzero, andAll}
+use Rattle.bits.specs.Tests.{any, all, count}
 use Rattle.bits.proofs.TestLaws.{and-trues, and-both, or-trues}
-use Rattle.bits.proofs.ListLaws.{or-left, or-right, any-map, all-map, all-ext, take-map, drop-map, map-ext, map-map}
+use Rattle.bits.proofs.ListLaws.{or-left, or-right, any-map, all-ext, all-map, map-ext, take-map, drop-map, map-map}
 use Rattle.bits.proofs.WordLaws.{pack-at, nonzero-word, zipAnd, and-word, mask-word}
 use Rattle.rules.specs.Rule.{Rule}
 use Rattle.rules.specs.Match.{blockOf, blocksBefore}
+use Rattle.area.specs.Shape.{Shape}
 use Rattle.index.specs.Key.{Key, hit}
 use Rattle.index.specs.Keys.{keys}
-use Rattle.index.specs.Shape.{Shape}
 use Rattle.index.specs.Image.{vector, image}
 use Rattle.index.proofs.KeyLaws.{Stands}
 use Rattle.index.proofs.ImageLaws.{record-summary, record-vector}

@@ -10,9 +10,8 @@ use lib.ListN.{length, getD, take, drop, length-drop}
 use lib.Seq.{getD-take, getD-drop, length-take-le}
 use Rattle.bits.specs.Word.{bit, andAll}
 use Rattle.bits.proofs.ListLaws.{map-ext, map-map}
-use Rattle.area.specs.Grow.{recordWords}
+use Rattle.area.specs.Shape.{blocks, deskShape, recordWords, aggregateStart, vectorStart}
 use Rattle.index.specs.Key.{Key}
-use Rattle.index.specs.Shape.{deskShape}
 use Rattle.lookup.specs.Walk.{rowAt, ends, summariesAt, vectorAt}
 use Rattle.lookup.specs.Scan.{scan, meet, resolve}
 use Rattle.lookup.specs.Look.{lookupSteps}
@@ -30,23 +29,23 @@ row-word area n i h =
 aggregate-read : (area : List ℕ) (n : ℕ) → getD (summariesAt deskShape area n) 0 0 ≡ aggregateAt area n
 unfolding summariesAt
 aggregate-read area n =
-    getD-take 1 (drop 2 (rowAt deskShape area n)) 0 0 (omega arith) ∙ getD-drop 2 (rowAt deskShape area n) 0 0 ∙ row-word area n 2 (omega arith)
+    getD-take 1 (drop aggregateStart (rowAt deskShape area n)) 0 0 (omega arith) ∙ getD-drop aggregateStart (rowAt deskShape area n) 0 0 ∙ row-word area n aggregateStart (omega arith)
 
 -- the vector
-pub vector-length : (area : List ℕ) (n : ℕ) → n < length area / recordWords → length (vectorAt deskShape area n) ≡ 8
+pub vector-length : (area : List ℕ) (n : ℕ) → n < length area / recordWords → length (vectorAt deskShape area n) ≡ blocks
 unfolding vectorAt rowAt
 vector-length area n h =
     omega (
       arith,
-      length-drop 3 (take recordWords (drop (n * recordWords) area)),
+      length-drop vectorStart (take recordWords (drop (n * recordWords) area)),
       length-take-le recordWords (drop (n * recordWords) area) (omega (arith, length-drop (n * recordWords) area)),
     )
 
-pub vector-read : (area : List ℕ) (n b : ℕ) → b < 8 → getD (vectorAt deskShape area n) b 0 ≡ getD area (recordWords * n + 3 + b) 0
+pub vector-read : (area : List ℕ) (n b : ℕ) → b < blocks → getD (vectorAt deskShape area n) b 0 ≡ getD area (recordWords * n + vectorStart + b) 0
 unfolding vectorAt
 vector-read area n b h =
-    let e : recordWords * n + (3 + b) ≡ recordWords * n + 3 + b = omega arith in
-    getD-drop 3 (rowAt deskShape area n) b 0 ∙ row-word area n (3 + b) (omega arith) ∙ ap (λ (k : ℕ). getD area k 0) e
+    let e : recordWords * n + (vectorStart + b) ≡ recordWords * n + vectorStart + b = omega arith in
+    getD-drop vectorStart (rowAt deskShape area n) b 0 ∙ row-word area n (vectorStart + b) (omega arith) ∙ ap (λ (k : ℕ). getD area k 0) e
 
 -- ---- what the steps find
 
@@ -57,7 +56,7 @@ module _ (area : List ℕ) (ks : List Key) where
 
   -- from the words that the records hold
   pub steps-some : (ns : List ℕ) → ends deskShape area ks ≡ some ns
-      → lookupSteps deskShape area ks ≡ some (scan 32 (bit (andAll 32 (map (aggregateAt area) ns))) (meet deskShape (map (vectorAt deskShape area) ns)) 8 0)
+      → lookupSteps deskShape area ks ≡ some (scan 32 (bit (andAll 32 (map (aggregateAt area) ns))) (meet deskShape (map (vectorAt deskShape area) ns)) blocks 0)
   unfolding lookupSteps resolve
   steps-some ns e =
       let words : map (λ s. getD s 0 0) (map (summariesAt deskShape area) ns) ≡ map (aggregateAt area) ns =
@@ -65,4 +64,4 @@ module _ (area : List ℕ) (ks : List Key) where
       ∙ map-ext (λ n. getD (summariesAt deskShape area n) 0 0) (aggregateAt area) (aggregate-read area) ns
       in
       rw (e, lookupSteps)
-      (ap (λ (l : List ℕ). some (scan 32 (bit (andAll 32 l)) (meet deskShape (map (vectorAt deskShape area) ns)) 8 0)) words)
+      (ap (λ (l : List ℕ). some (scan 32 (bit (andAll 32 l)) (meet deskShape (map (vectorAt deskShape area) ns)) blocks 0)) words)

@@ -7,12 +7,12 @@ use Prim.Native.Nat.{ℕ, suc, _+_, _*_, _/_, _%_, _≤_, _<_}
 use native.Mathlib.Nat.{zero-mul, zero-add, div-lt-iff-lt-mul, mod-lt, div-add-mod', zero-lt-suc}
 use native.Mathlib.Omega.{arith}
 use lib.ListN.{getD, length-append}
-use Rattle.bits.specs.Tests.{all}
 use Rattle.bits.specs.Word.{pack, bit, nonzero, aggregate, andAll}
+use Rattle.bits.specs.Tests.{all}
 use Rattle.bits.proofs.TestLaws.{and-trues, and-both}
-use Rattle.bits.proofs.ListLaws.{all-map, all-ext}
-use Rattle.bits.proofs.WordLaws.{bit-all, bit-nonzero, aggregate-bit, length-aggregate}
-use Rattle.index.specs.Shape.{Shape, oneLevel, deskShape}
+use Rattle.bits.proofs.ListLaws.{all-ext, all-map}
+use Rattle.bits.proofs.WordLaws.{bit-nonzero, bit-all, aggregate-bit, length-aggregate}
+use Rattle.area.specs.Shape.{Shape, oneLevel, deskShape}
 use Rattle.index.proofs.ImageLaws.{Sized, one-level-sized}
 
 -- what stands over the vector of some tests

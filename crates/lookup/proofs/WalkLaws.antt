@@ -16,16 +16,16 @@ use Rattle.bits.specs.Path.{Path}
 use Rattle.bits.specs.Word.{digit}
 use Rattle.bits.proofs.TestLaws.{decided, less}
 use Rattle.rules.specs.Rule.{Rule}
+use Rattle.area.specs.Shape.{Shape, width}
 use Rattle.index.specs.Key.{Key, at, member, placeFrom, hit}
 use Rattle.index.specs.Keys.{keys}
-use Rattle.index.specs.Shape.{Shape, width}
 use Rattle.index.specs.Image.{child, recordOf, image}
 use Rattle.index.specs.Need.{need}
 use Rattle.index.proofs.KeyLaws.{further, Stands, place-in, place-out}
 use Rattle.index.proofs.GrownLaws.{keys-root}
 use Rattle.index.proofs.ReachLaws.{keys-absent, hits-stop}
 use Rattle.index.proofs.CountLaws.{records-law}
-use Rattle.index.proofs.ImageLaws.{Sized, length-image, record-child, image-record}
+use Rattle.index.proofs.ImageLaws.{record-child, Sized, length-image, image-record}
 use Rattle.lookup.specs.Walk.{rowAt, bad, walkFrom, walk, ends}
 
 -- ---- one step

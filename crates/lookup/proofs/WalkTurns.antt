@@ -14,8 +14,7 @@ use Rattle.bits.specs.Path.{Path, bits, bitOf}
 use Rattle.bits.proofs.TestLaws.{decided, or-falses}
 use Rattle.bits.proofs.ListLaws.{or-left, or-right}
 use Rattle.bits.proofs.DigitLaws.{digit-of, bit-small, bits-from}
-use Rattle.area.specs.Grow.{recordWords}
-use Rattle.index.specs.Shape.{deskShape}
+use Rattle.area.specs.Shape.{deskShape, recordWords}
 use Rattle.lookup.specs.Walk.{rowAt, bad, walkFrom}
 use Rattle.lookup.proofs.WalkLaws.{next, walk-stop, walk-bad, walk-on}
 use Rattle.lookup.proofs.ReadLaws.{row-word}

@@ -9,7 +9,7 @@ use borrow.Author.Needs.{needs}
 use denote.Ref.{now}
 use Rattle.bits.proofs.EachLaws.{getD-map}
 use Rattle.bits.proofs.StoreLaws.{fill-more, fill-done}
-use Rattle.area.specs.Grow.{recordWords}
+use Rattle.area.specs.Shape.{recordWords}
 use Rattle.lookup.specs.InCode.{aggregateAt}
 use Rattle.lookup.proofs.gather.aggregates_at.Statement.{statement}
 use Rattle.lookup.proofs.gather.aggregates_at.Tie as tie

@@ -7,17 +7,17 @@ use lib.ListN.{length, take, length-set}
 use borrow.Author.Needs.{needs}
 use denote.Ref.{now}
 use Rattle.bits.proofs.StoreLaws.{fill-more, fill-done}
-use Rattle.index.specs.Shape.{deskShape}
+use Rattle.area.specs.Shape.{blocks, deskShape}
 use Rattle.lookup.specs.Walk.{vectorAt}
 use Rattle.lookup.proofs.ReadLaws.{vector-length, vector-read}
 use Rattle.lookup.proofs.gather.vector_at.Statement.{statement}
 use Rattle.lookup.proofs.gather.vector_at.Tie as tie
 
 abbrev Inv-loop : tie.InvT-loop
-Inv-loop area row vector₀ start b₀ vector b = (b ≤ 8) × (length vector ≡ 8) × (take b vector ≡ take b (vectorAt deskShape area row))
+Inv-loop area row vector₀ start b₀ vector b = (b ≤ blocks) × (length vector ≡ blocks) × (take b vector ≡ take b (vectorAt deskShape area row))
 
 abbrev μ-loop : tie.MeasureT-loop
-μ-loop area row vector₀ start b₀ vector b = 8 - b
+μ-loop area row vector₀ start b₀ vector b = blocks - b
 
 loop-holds : tie.Need-loop-holds Inv-loop μ-loop
 loop-holds c = (omega arith, refl, refl)
@@ -39,7 +39,7 @@ returns c =
     let k = c .before in
     let a = k .before .args in
     let l = k .loop in
-    fill-done (vectorAt deskShape (now (a .area)) (a .row)) (l .vector) (l .b) 8 (omega arith) (vector-length (now (a .area)) (a .row) (k .before .pre)) (l .inv .1) (l .inv .2)
+    fill-done (vectorAt deskShape (now (a .area)) (a .row)) (l .vector) (l .b) blocks (omega arith) (vector-length (now (a .area)) (a .row) (k .before .pre)) (l .inv .1) (l .inv .2)
 
 pub vector-at-spec : {M : Type 1} → statement M
 vector-at-spec =

@@ -9,7 +9,7 @@ use borrow.Author.Needs.{needs}
 use denote.Ref.{now}
 use Rattle.bits.proofs.EachLaws.{getD-map}
 use Rattle.bits.proofs.StoreLaws.{fill-more, fill-done}
-use Rattle.index.specs.Shape.{deskShape}
+use Rattle.area.specs.Shape.{deskShape}
 use Rattle.lookup.specs.Walk.{vectorAt}
 use Rattle.lookup.proofs.gather.vectors_at.Statement.{statement}
 use Rattle.lookup.proofs.gather.vectors_at.Tie as tie

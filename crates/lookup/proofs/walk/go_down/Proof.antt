@@ -9,8 +9,7 @@ use borrow.Author.Tests.{leb-true, leb-false}
 use denote.Ref.{now}
 use Rattle.bits.specs.Path.{bits}
 use Rattle.bits.proofs.DigitLaws.{bit-small}
-use Rattle.area.specs.Grow.{recordWords}
-use Rattle.index.specs.Shape.{deskShape}
+use Rattle.area.specs.Shape.{deskShape, recordWords}
 use Rattle.lookup.specs.Walk.{walkFrom}
 use Rattle.lookup.specs.InCode.{reached}
 use Rattle.lookup.proofs.WalkTurns.{step-stop, step-bad, step-on, bad-low, bad-high, bad-none}

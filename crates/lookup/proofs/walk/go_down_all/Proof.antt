@@ -12,8 +12,7 @@ use borrow.Author.Needs.{needs}
 use denote.Ref.{now}
 use Rattle.bits.specs.Path.{bits}
 use Rattle.rules.specs.Header.{headerValues}
-use Rattle.area.specs.Grow.{recordWords}
-use Rattle.index.specs.Shape.{deskShape}
+use Rattle.area.specs.Shape.{deskShape, recordWords}
 use Rattle.lookup.specs.Walk.{walkFrom, walk, ends}
 use Rattle.lookup.specs.Look.{keysFrom, headerKeys}
 use Rattle.lookup.specs.InCode.{reached, reachedAll, AllInside}
