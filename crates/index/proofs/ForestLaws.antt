@@ -14,7 +14,7 @@ use Rattle.rules.specs.Rule.{Rule}
 use Rattle.area.specs.Shape.{recordWords}
 use Rattle.area.specs.Hand.{childWord}
 use Rattle.area.proofs.HandLaws.{Forest}
-use Rattle.index.specs.Key.{Key, at, member}
+use Rattle.index.specs.Key.{Key, at, hasRecord}
 use Rattle.index.specs.Keys.{keys}
 use Rattle.index.specs.Image.{child}
 use Rattle.index.proofs.KeyLaws.{noKey, further, further-same, Stands, stands-here, stands-same, place-in, place-out}
@@ -40,7 +40,7 @@ module _ (n : ℕ) (rules : List Rule) (marks : List Mark) (a₀ a : List ℕ) (
   child-stands : (k : Key) (b : Bool) → 0 < child ks k b → Stands ks (child ks k b) (further k b)
   unfolding child
   child-stands k b h =
-      ⊎-elim (λ m. place-in (further k b) ks m) (λ m. absurd (omega (arith, place-out (further k b) 0 ks m))) (decided (member (further k b) ks))
+      ⊎-elim (λ m. place-in (further k b) ks m) (λ m. absurd (omega (arith, place-out (further k b) 0 ks m))) (decided (hasRecord (further k b) ks))
 
   pub kid : (i : ℕ) → i < count → (b : Bool) → childWord a i (digit b) ≡ child ks (key i) b
   kid i h b = recorded .kids i (key i) b (stands-here ks i h)

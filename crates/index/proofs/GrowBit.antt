@@ -18,7 +18,7 @@ use Rattle.area.specs.Shape.{blocks, recordWords, vectorStart}
 use Rattle.area.specs.Grow.{State, withBit}
 use Rattle.area.proofs.GrowLaws.{bit-length}
 use Rattle.index.specs.Key.{Key, at, sameKey}
-use Rattle.index.proofs.KeyLaws.{sameKey-eq, sameKey-refl, sameKey-ne, Stands, stands-same, stands-member}
+use Rattle.index.proofs.KeyLaws.{sameKey-eq, sameKey-refl, sameKey-ne, Stands, stands-same, stands-hasRecord}
 use Rattle.index.proofs.MarkLaws.{Mark, markWords, length-words, withMark, mark-more, mark-elsewhere, mark-here}
 use Rattle.index.proofs.Recorded.{Sound5, Recorded, Walking}
 
@@ -77,6 +77,6 @@ module _ (n : ℕ) (a₀ : List ℕ) (ks : List Key) (marks : List Mark) (k : Ke
     marked = λ l e r.
         mark-more marks i k l r
         ∙ ap₂ (λ a b. a || (eqb i r && b)) (w .sound .marked l e r)
-        (sameKey-ne k l (λ q. clash (stands-member ks (s .at) l (subst (λ (x : Key). Stands ks (s .at) x) q (w .here))) e))
+        (sameKey-ne k l (λ q. clash (stands-hasRecord ks (s .at) l (subst (λ (x : Key). Stands ks (s .at) x) q (w .here))) e))
         ∙ and-false (eqb i r);
   }

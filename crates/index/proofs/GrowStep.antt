@@ -16,10 +16,10 @@ use Rattle.area.specs.Shape.{recordWords, vectorStart}
 use Rattle.area.specs.Grow.{zeroed, State, made, kid, down}
 use Rattle.area.proofs.ZeroLaws.{length-zeroed, zeroed-below, zeroed-inside, zeroed-above}
 use Rattle.area.proofs.GrowLaws.{down-new, down-old}
-use Rattle.index.specs.Key.{Key, at, sameKey, member, placeFrom}
+use Rattle.index.specs.Key.{Key, at, sameKey, hasRecord, placeFrom}
 use Rattle.index.specs.Keys.{grown}
 use Rattle.index.specs.Image.{child}
-use Rattle.index.proofs.KeyLaws.{noKey, further, sameKey-eq, sameKey-refl, sameKey-ne, longer, further-same, further-root, Stands, stands-same, stands-append, stands-snoc, stands-member, member-append, place-in, place-out}
+use Rattle.index.proofs.KeyLaws.{noKey, further, sameKey-eq, sameKey-refl, sameKey-ne, longer, further-same, further-root, Stands, stands-same, stands-append, stands-snoc, stands-hasRecord, hasRecord-append, place-in, place-out}
 use Rattle.index.proofs.GrownLaws.{grown-old, grown-new}
 use Rattle.index.proofs.OrderLaws.{Once, once-grown, Parented, parented-grown, place-snoc, place-other}
 use Rattle.index.proofs.MarkLaws.{Mark, no-marks}
@@ -32,7 +32,7 @@ module _ (n : ℕ) (a₀ : List ℕ) (ks : List Key) (marks : List Mark) (k : Ke
   unfolding child
   word = w .recorded .kids (s .at) k b (w .here)
 
-  old-child : member (further k b) ks ≡ true → Walking n a₀ ks marks (further k b) (down (digit b) s)
+  old-child : hasRecord (further k b) ks ≡ true → Walking n a₀ ks marks (further k b) (down (digit b) s)
   old-child m =
       let place = place-in (further k b) ks m in
       let some : kid (digit b) s ≡ 0 → ⊥ =
@@ -45,7 +45,7 @@ module _ (n : ℕ) (a₀ : List ℕ) (ks : List Key) (marks : List Mark) (k : Ke
 
   -- ---- a step to a new one
 
-  module _ (new : member (further k b) ks ≡ false) (room : recordWords * (length ks + 1) ≤ length a₀) where
+  module _ (new : hasRecord (further k b) ks ≡ false) (room : recordWords * (length ks + 1) ≤ length a₀) where
     abbrev L : ℕ
     L = length ks
 
@@ -65,8 +65,8 @@ module _ (n : ℕ) (a₀ : List ℕ) (ks : List Key) (marks : List Mark) (k : Ke
     inside = w .here .inside
 
     -- no record goes on from the new one
-    childless : (c : Bool) → member (further z c) ks ≡ false
-    childless c = refuted (member (further z c) ks) (λ e. clash (stands-member ks _ z (w .sound .parented _ z c (place-in (further z c) ks e) .2)) new)
+    childless : (c : Bool) → hasRecord (further z c) ks ≡ false
+    childless c = refuted (hasRecord (further z c) ks) (λ e. clash (stands-hasRecord ks _ z (w .sound .parented _ z c (place-in (further z c) ks e) .2)) new)
 
     below : (j : ℕ) → j < recordWords * L → (j ≡ recordWords * s .at + digit b → ⊥) → getD area j 0 ≡ getD (s .area) j 0
     below j h ne =
@@ -123,7 +123,7 @@ module _ (n : ℕ) (a₀ : List ℕ) (ks : List Key) (marks : List Mark) (k : Ke
           (λ t. getD area (recordWords * e .0 t + vectorStart + v) 0)
           ∙ ap (λ (j : ℕ). getD area j 0) (omega arith)
           ∙ zeros (vectorStart + v) (omega arith)
-          ∙ sym (no-marks n marks l v (w .sound .marked l (ap (λ (x : Key). member x ks) (e .1) ∙ new))))
+          ∙ sym (no-marks n marks l v (w .sound .marked l (ap (λ (x : Key). hasRecord x ks) (e .1) ∙ new))))
           (stands-snoc ks z i l st);
       rest = λ j h.
           let more : length (ks ++ (z ∷ [])) ≡ L + 1 = length-append ks (z ∷ []) in
@@ -137,9 +137,9 @@ module _ (n : ℕ) (a₀ : List ℕ) (ks : List Key) (marks : List Mark) (k : Ke
         let grown : grown ks z ≡ ks ++ (z ∷ []) = grown-new ks z new in
         record {
           once = subst Once grown (once-grown ks z (w .sound .once));
-          parented = subst Parented grown (parented-grown ks k b (stands-member ks _ k (w .here)) (w .sound .parented));
+          parented = subst Parented grown (parented-grown ks k b (stands-hasRecord ks _ k (w .here)) (w .sound .parented));
           rooted = λ f h. stands-append ks (z ∷ []) f (at f []) (w .sound .rooted f h);
-          marked = λ l e i. w .sound .marked l (or-falses (member l ks) (member l (z ∷ [])) (sym (member-append l ks (z ∷ [])) ∙ e) .0) i;
+          marked = λ l e i. w .sound .marked l (or-falses (hasRecord l ks) (hasRecord l (z ∷ [])) (sym (hasRecord-append l ks (z ∷ [])) ∙ e) .0) i;
         }
 
     new-child : Walking n a₀ (ks ++ (z ∷ [])) marks z (down (digit b) s)
@@ -158,8 +158,8 @@ module _ (n : ℕ) (a₀ : List ℕ) (ks : List Key) (marks : List Mark) (k : Ke
   pub step-walking : recordWords * length (grown ks (further k b)) ≤ length a₀ → Walking n a₀ (grown ks (further k b)) marks (further k b) (down (digit b) s)
   step-walking room =
       ⊎-elim
-      (λ (e : member (further k b) ks ≡ true). rw (grown-old ks (further k b) e) (old-child e))
-      (λ (e : member (further k b) ks ≡ false).
+      (λ (e : hasRecord (further k b) ks ≡ true). rw (grown-old ks (further k b) e) (old-child e))
+      (λ (e : hasRecord (further k b) ks ≡ false).
       rw (grown-new ks (further k b) e)
       (new-child e (omega (arith, rw (grown-new ks (further k b) e) at room, length-append ks (further k b ∷ [])))))
-      (decided (member (further k b) ks))
+      (decided (hasRecord (further k b) ks))

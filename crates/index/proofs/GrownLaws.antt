@@ -13,24 +13,24 @@ use Rattle.bits.specs.Tests.{any}
 use Rattle.bits.proofs.TestLaws.{decided}
 use Rattle.bits.proofs.ListLaws.{or-left, any-append}
 use Rattle.rules.specs.Rule.{Rule}
-use Rattle.index.specs.Key.{Key, at, sameKey, member}
+use Rattle.index.specs.Key.{Key, at, sameKey, hasRecord}
 use Rattle.index.specs.Keys.{grown, grow, stepsFrom, insert, insertAll, ruleInserts, inserts, rootsFrom, keys}
 use Rattle.index.proofs.KeyLaws.{sameKey-eq, Stands, stands-later, stands-append}
 
 -- ---- what growing adds
 
-pub grown-old : (ks : List Key) (k : Key) → member k ks ≡ true → grown ks k ≡ ks
+pub grown-old : (ks : List Key) (k : Key) → hasRecord k ks ≡ true → grown ks k ≡ ks
 unfolding grown
 grown-old ks k e = rw (e, grown)
 
-pub grown-new : (ks : List Key) (k : Key) → member k ks ≡ false → grown ks k ≡ ks ++ (k ∷ [])
+pub grown-new : (ks : List Key) (k : Key) → hasRecord k ks ≡ false → grown ks k ≡ ks ++ (k ∷ [])
 unfolding grown
 grown-new ks k e = rw (e, grown)
 
 -- what holds of a list, and goes on through a new key at its end, holds of the list when it has grown
-module _ (P : List Key → Type 0) (more : (ks : List Key) (k : Key) → member k ks ≡ false → P ks → P (ks ++ (k ∷ []))) where
+module _ (P : List Key → Type 0) (more : (ks : List Key) (k : Key) → hasRecord k ks ≡ false → P ks → P (ks ++ (k ∷ []))) where
   pub grown-keeps : (ks : List Key) (k : Key) → P ks → P (grown ks k)
-  grown-keeps ks k p = ⊎-elim (λ e. rw (grown-old ks k e) p) (λ e. rw (grown-new ks k e) (more ks k e p)) (decided (member k ks))
+  grown-keeps ks k p = ⊎-elim (λ e. rw (grown-old ks k e) p) (λ e. rw (grown-new ks k e) (more ks k e p)) (decided (hasRecord k ks))
 
   pub grow-keeps : (ks new : List Key) → P ks → P (grow ks new)
   unfolding grow
@@ -51,27 +51,27 @@ module _ (i : ℕ) (k : Key) where
   insertAll-at = insertAll-keeps (λ ks. Stands ks i k) (λ ks l e. stands-append ks (l ∷ []) i k)
 
 -- one key more
-pub grown-member : (k : Key) (ks : List Key) (l : Key) → member k (grown ks l) ≡ (member k ks || sameKey k l)
-grown-member k ks l = ⊎-elim old new (decided (member l ks))
+pub grown-hasRecord : (k : Key) (ks : List Key) (l : Key) → hasRecord k (grown ks l) ≡ (hasRecord k ks || sameKey k l)
+grown-hasRecord k ks l = ⊎-elim old new (decided (hasRecord l ks))
   where
-    new : member l ks ≡ false → member k (grown ks l) ≡ (member k ks || sameKey k l)
-    new e = rw (grown-new ks l e) (unfold member any in any-append (sameKey k) ks (l ∷ []) ∙ ap (λ t. member k ks || t) (or-false (sameKey k l)))
+    new : hasRecord l ks ≡ false → hasRecord k (grown ks l) ≡ (hasRecord k ks || sameKey k l)
+    new e = rw (grown-new ks l e) (unfold hasRecord any in any-append (sameKey k) ks (l ∷ []) ∙ ap (λ t. hasRecord k ks || t) (or-false (sameKey k l)))
 
-    old : member l ks ≡ true → member k (grown ks l) ≡ (member k ks || sameKey k l)
+    old : hasRecord l ks ≡ true → hasRecord k (grown ks l) ≡ (hasRecord k ks || sameKey k l)
     old e =
         rw (grown-old ks l e)
         (⊎-elim
-        (λ s. let h : member k ks ≡ true = rw (sameKey-eq k l s) e in h ∙ sym (or-left (member k ks) (sameKey k l) h))
-        (λ s. rw s (sym (or-false (member k ks))))
+        (λ s. let h : hasRecord k ks ≡ true = rw (sameKey-eq k l s) e in h ∙ sym (or-left (hasRecord k ks) (sameKey k l) h))
+        (λ s. rw s (sym (or-false (hasRecord k ks))))
         (decided (sameKey k l)))
 
-pub grow-member : (k : Key) (ks new : List Key) → member k (grow ks new) ≡ (member k ks || member k new)
-unfolding grow member any
-grow-member k ks [] = sym (or-false (member k ks))
-grow-member k ks (l ∷ new) =
-    grow-member k (grown ks l) new
-    ∙ ap (λ t. t || member k new) (grown-member k ks l)
-    ∙ or-assoc (member k ks) (sameKey k l) (member k new)
+pub grow-hasRecord : (k : Key) (ks new : List Key) → hasRecord k (grow ks new) ≡ (hasRecord k ks || hasRecord k new)
+unfolding grow hasRecord any
+grow-hasRecord k ks [] = sym (or-false (hasRecord k ks))
+grow-hasRecord k ks (l ∷ new) =
+    grow-hasRecord k (grown ks l) new
+    ∙ ap (λ t. t || hasRecord k new) (grown-hasRecord k ks l)
+    ∙ or-assoc (hasRecord k ks) (sameKey k l) (hasRecord k new)
 
 -- ---- more keys behind
 
@@ -100,7 +100,7 @@ inserts-append n (r ∷ rules) more =
 
 -- no record is taken back
 module _ (ks : List Key) where
-  no-fewer : (l : List Key) (k : Key) → member k l ≡ false → length ks ≤ length l → length ks ≤ length (l ++ (k ∷ []))
+  no-fewer : (l : List Key) (k : Key) → hasRecord k l ≡ false → length ks ≤ length l → length ks ≤ length (l ++ (k ∷ []))
   no-fewer l k e h = omega (arith, length-append l (k ∷ []))
 
   pub grow-le : (new : List Key) → length ks ≤ length (grow ks new)

@@ -31,7 +31,7 @@ use Rattle.index.specs.Image.{child}
 use Rattle.index.specs.Steps.{AllSound, pathOf, fieldIn, ruleIn, rulesIn, cleared, allIn}
 use Rattle.index.proofs.KeyLaws.{further, place-out}
 use Rattle.index.proofs.GrownLaws.{insertAll-append, insert-le, insertAll-le, roots-rooted}
-use Rattle.index.proofs.ReachLaws.{below-beyond, roots-member}
+use Rattle.index.proofs.ReachLaws.{below-beyond, roots-hasRecord}
 use Rattle.index.proofs.CountLaws.{length-roots}
 use Rattle.index.proofs.OrderLaws.{keys-once, keys-parented}
 use Rattle.index.proofs.NeedLaws.{oneEach, each-more, rule-inserts, inserts-more, length-path}
@@ -159,7 +159,7 @@ module _ (table : List ℕ) (sound : AllSound table) (few : ruleCount table ≤ 
 
     root-childless : (k : Key) (b : Bool) → child (rootsFrom 0 5) k b ≡ 0
     unfolding child
-    root-childless k b = place-out (further k b) 0 (rootsFrom 0 5) (roots-member (further k b) (below-beyond k b []) 0 5)
+    root-childless k b = place-out (further k b) 0 (rootsFrom 0 5) (roots-hasRecord (further k b) (below-beyond k b []) 0 5)
 
     root-word : (j : ℕ) → j < 5 * recordWords → getD (zeroed 0 (5 * recordWords) a₀) j 0 ≡ 0
     root-word j h = zeroed-inside 0 (5 * recordWords) j a₀ (omega arith) big (omega arith) h

@@ -16,7 +16,7 @@ use Rattle.bits.specs.Tests.{any}
 use Rattle.bits.proofs.TestLaws.{decided, and-trues, and-both, or-falses, equal, refuted}
 use Rattle.bits.proofs.ListLaws.{or-left, or-right, any-append, ending, snoc-same}
 use Rattle.bits.proofs.SamePathLaws.{samePath-eq, samePath-refl}
-use Rattle.index.specs.Key.{Key, at, sameKey, member, placeFrom}
+use Rattle.index.specs.Key.{Key, at, sameKey, hasRecord, placeFrom}
 
 -- what a list of keys gives at a place that it does not have
 abbrev pub noKey : Key
@@ -94,16 +94,16 @@ stands-snoc ks l i k s =
     (λ (h : i < length ks). inl (record { inside = h; there = sym (List·getD-append ks (l ∷ []) noKey i h) ∙ s .there }))
     (equal i (length ks) (omega (arith, length-append ks (l ∷ []))))
 
-pub stands-member : (ks : List Key) (i : ℕ) (k : Key) → Stands ks i k → member k ks ≡ true
-unfolding member any
-stands-member [] i k s = absurd (omega arith)
-stands-member (l ∷ ks) zero k s = or-left (sameKey k l) (member k ks) (rw (s .there) (sameKey-refl k))
-stands-member (l ∷ ks) (suc i) k s =
-    or-right (sameKey k l) (member k ks) (stands-member ks i k (record { inside = omega arith; there = s .there }))
+pub stands-hasRecord : (ks : List Key) (i : ℕ) (k : Key) → Stands ks i k → hasRecord k ks ≡ true
+unfolding hasRecord any
+stands-hasRecord [] i k s = absurd (omega arith)
+stands-hasRecord (l ∷ ks) zero k s = or-left (sameKey k l) (hasRecord k ks) (rw (s .there) (sameKey-refl k))
+stands-hasRecord (l ∷ ks) (suc i) k s =
+    or-right (sameKey k l) (hasRecord k ks) (stands-hasRecord ks i k (record { inside = omega arith; there = s .there }))
 
-pub member-append : (k : Key) (l m : List Key) → member k (l ++ m) ≡ (member k l || member k m)
-unfolding member
-member-append k l m = any-append (sameKey k) l m
+pub hasRecord-append : (k : Key) (l m : List Key) → hasRecord k (l ++ m) ≡ (hasRecord k l || hasRecord k m)
+unfolding hasRecord
+hasRecord-append k l m = any-append (sameKey k) l m
 
 -- ---- its place
 
@@ -115,27 +115,27 @@ pub place-later : (n : ℕ) (k l : Key) (ks : List Key) → sameKey k l ≡ fals
 unfolding placeFrom
 place-later n k l ks e = rw (e, placeFrom)
 
--- a member stands at its place, whichever number the first place has
-place-from : (n : ℕ) (k : Key) (ks : List Key) → member k ks ≡ true → (i : ℕ) × (placeFrom n k ks ≡ n + i) × Stands ks i k
-unfolding member any
+-- a key of the list stands at its place, whichever number the first place has
+place-from : (n : ℕ) (k : Key) (ks : List Key) → hasRecord k ks ≡ true → (i : ℕ) × (placeFrom n k ks ≡ n + i) × Stands ks i k
+unfolding hasRecord any
 place-from n k [] e = absurd (false≢true e)
 place-from n k (l ∷ ks) e = step (decided (sameKey k l)) (place-from (suc n) k ks)
   where
-    step : (sameKey k l ≡ true) ⊎ (sameKey k l ≡ false) → (member k ks ≡ true → (i : ℕ) × (placeFrom (suc n) k ks ≡ suc n + i) × Stands ks i k)
+    step : (sameKey k l ≡ true) ⊎ (sameKey k l ≡ false) → (hasRecord k ks ≡ true → (i : ℕ) × (placeFrom (suc n) k ks ≡ suc n + i) × Stands ks i k)
         → (i : ℕ) × (placeFrom n k (l ∷ ks) ≡ n + i) × Stands (l ∷ ks) i k
     step (inl s) later = (0, place-here n k l ks s ∙ sym (add-zero n), record { inside = omega arith; there = sym (sameKey-eq k l s) })
     step (inr s) later =
         let m = later (rw s at e) in
         (suc (m .0), place-later n k l ks s ∙ m .1 ∙ omega arith, stands-later l ks (m .0) k (m .2))
 
-pub place-in : (k : Key) (ks : List Key) → member k ks ≡ true → Stands ks (placeFrom 0 k ks) k
+pub place-in : (k : Key) (ks : List Key) → hasRecord k ks ≡ true → Stands ks (placeFrom 0 k ks) k
 place-in k ks e =
     let m = place-from 0 k ks e in
     subst (λ (i : ℕ). Stands ks i k) (sym (m .1 ∙ zero-add (m .0))) (m .2)
 
-pub place-out : (k : Key) (n : ℕ) (ks : List Key) → member k ks ≡ false → placeFrom n k ks ≡ 0
-unfolding member any placeFrom
+pub place-out : (k : Key) (n : ℕ) (ks : List Key) → hasRecord k ks ≡ false → placeFrom n k ks ≡ 0
+unfolding hasRecord any placeFrom
 place-out k n [] e = refl
 place-out k n (l ∷ ks) e =
-    let s = or-falses (sameKey k l) (member k ks) e in
+    let s = or-falses (sameKey k l) (hasRecord k ks) e in
     place-later n k l ks (s .0) ∙ place-out k (suc n) ks (s .1)

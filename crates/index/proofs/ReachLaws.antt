@@ -15,10 +15,10 @@ use Rattle.bits.proofs.TestLaws.{equal}
 use Rattle.bits.proofs.ListLaws.{any-append, any-and, any-map, map-none, any-same}
 use Rattle.bits.proofs.SamePathLaws.{samePath-eq, leads-append, leads-longer, leads-root, leads-snoc, leads-stop}
 use Rattle.rules.specs.Rule.{Rule}
-use Rattle.index.specs.Key.{Key, at, sameKey, member, pathsIn, hit}
+use Rattle.index.specs.Key.{Key, at, sameKey, hasRecord, pathsIn, hit}
 use Rattle.index.specs.Keys.{stepsFrom, insert, insertAll, ruleInserts, inserts, rootsFrom, keys}
 use Rattle.index.proofs.KeyLaws.{beyond, further}
-use Rattle.index.proofs.GrownLaws.{grow-member}
+use Rattle.index.proofs.GrownLaws.{grow-hasRecord}
 
 -- ---- a record stands for each nonempty leading part of a path that was put in, and for no other
 
@@ -44,8 +44,8 @@ one-step true on back f g = sym (ap₂ (λ x y. x && not y) (f refl) (g refl))
 one-step false on back f g = ap (λ t. on && not t) (or-false back)
 
 -- the steps from q on along p are the leading parts of q ++ p that do not lead q
-steps-from : (f g : ℕ) (x q p : Path) → member (at f x) (stepsFrom g q p) ≡ (eqb f g && (leads x (q ++ p) && not (leads x q)))
-unfolding member any stepsFrom sameKey
+steps-from : (f g : ℕ) (x q p : Path) → hasRecord (at f x) (stepsFrom g q p) ≡ (eqb f g && (leads x (q ++ p) && not (leads x q)))
+unfolding hasRecord any stepsFrom sameKey
 steps-from f g x q [] = rw (append-nil q, and-not-self (leads x q), and-false (eqb f g))
 steps-from f g x q (b ∷ p) =
     ap (λ t. (eqb f g && samePath x next) || t) (steps-from f g x next p)
@@ -63,30 +63,30 @@ steps-from f g x q (b ∷ p) =
     inField false here later both e = refl
 
 module _ (k : Key) (below : Below k) where
-  pub steps-member : (l : Key) → member k (stepsFrom (l .field) [] (l .path)) ≡ through k l
-  steps-member l = steps-from (k .field) (l .field) (k .path) [] (l .path) ∙ rw (below, and-true (leads (k .path) (l .path)))
+  pub steps-hasRecord : (l : Key) → hasRecord k (stepsFrom (l .field) [] (l .path)) ≡ through k l
+  steps-hasRecord l = steps-from (k .field) (l .field) (k .path) [] (l .path) ∙ rw (below, and-true (leads (k .path) (l .path)))
 
-  pub insert-member : (ks : List Key) (l : Key) → member k (insert ks l) ≡ (member k ks || through k l)
+  pub insert-hasRecord : (ks : List Key) (l : Key) → hasRecord k (insert ks l) ≡ (hasRecord k ks || through k l)
   unfolding insert
-  insert-member ks l = grow-member k ks (stepsFrom (l .field) [] (l .path)) ∙ ap (λ t. member k ks || t) (steps-member l)
+  insert-hasRecord ks l = grow-hasRecord k ks (stepsFrom (l .field) [] (l .path)) ∙ ap (λ t. hasRecord k ks || t) (steps-hasRecord l)
 
-  pub insertAll-member : (ks new : List Key) → member k (insertAll ks new) ≡ (member k ks || any (through k) new)
+  pub insertAll-hasRecord : (ks new : List Key) → hasRecord k (insertAll ks new) ≡ (hasRecord k ks || any (through k) new)
   unfolding insertAll any
-  insertAll-member ks [] = sym (or-false (member k ks))
-  insertAll-member ks (l ∷ new) =
-      insertAll-member (insert ks l) new
-      ∙ ap (λ t. t || any (through k) new) (insert-member ks l)
-      ∙ or-assoc (member k ks) (through k l) (any (through k) new)
+  insertAll-hasRecord ks [] = sym (or-false (hasRecord k ks))
+  insertAll-hasRecord ks (l ∷ new) =
+      insertAll-hasRecord (insert ks l) new
+      ∙ ap (λ t. t || any (through k) new) (insert-hasRecord ks l)
+      ∙ or-assoc (hasRecord k ks) (through k l) (any (through k) new)
 
-  pub roots-member : (g n : ℕ) → member k (rootsFrom g n) ≡ false
-  unfolding rootsFrom member any sameKey
-  roots-member g zero = refl
-  roots-member g (suc n) = rw (← leads-root (k .path), below, and-false (eqb (k .field) g)) (roots-member (suc g) n)
+  pub roots-hasRecord : (g n : ℕ) → hasRecord k (rootsFrom g n) ≡ false
+  unfolding rootsFrom hasRecord any sameKey
+  roots-hasRecord g zero = refl
+  roots-hasRecord g (suc n) = rw (← leads-root (k .path), below, and-false (eqb (k .field) g)) (roots-hasRecord (suc g) n)
 
-  pub keys-through : (n : ℕ) (rules : List Rule) → member k (keys n rules) ≡ any (through k) (inserts n rules)
+  pub keys-through : (n : ℕ) (rules : List Rule) → hasRecord k (keys n rules) ≡ any (through k) (inserts n rules)
   unfolding keys
   keys-through n rules =
-      insertAll-member (rootsFrom 0 n) (inserts n rules) ∙ ap (λ t. t || any (through k) (inserts n rules)) (roots-member 0 n)
+      insertAll-hasRecord (rootsFrom 0 n) (inserts n rules) ∙ ap (λ t. t || any (through k) (inserts n rules)) (roots-hasRecord 0 n)
 
 -- ---- of what a rule puts in, a test of one field's keys asks that field's paths alone
 
@@ -128,13 +128,13 @@ inserts-through k n (r ∷ rules) h =
 -- ---- the records of an index
 
 -- there is a record below a root exactly when some rule's path goes through it
-pub keys-member : (k : Key) → Below k → (n : ℕ) (rules : List Rule) → k .field < n → member k (keys n rules) ≡ reached k rules
-keys-member k below n rules h = keys-through k below n rules ∙ inserts-through k n rules h
+pub keys-hasRecord : (k : Key) → Below k → (n : ℕ) (rules : List Rule) → k .field < n → hasRecord k (keys n rules) ≡ reached k rules
+keys-hasRecord k below n rules h = keys-through k below n rules ∙ inserts-through k n rules h
 
 -- where no record goes on from k by b, no rule's path does
 pub keys-absent : (k : Key) (b : Bool) (n : ℕ) (rules : List Rule) → k .field < n
-    → member (further k b) (keys n rules) ≡ false → reached (further k b) rules ≡ false
-keys-absent k b n rules h e = sym (keys-member (further k b) (below-beyond k b []) n rules h) ∙ e
+    → hasRecord (further k b) (keys n rules) ≡ false → reached (further k b) rules ≡ false
+keys-absent k b n rules h e = sym (keys-hasRecord (further k b) (below-beyond k b []) n rules h) ∙ e
 
 -- and then the rules that are hit at k are those that are hit anywhere beyond b
 pub hits-stop : (k : Key) (b : Bool) (r : Path) (rules : List Rule) → reached (further k b) rules ≡ false

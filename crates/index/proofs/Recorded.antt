@@ -9,7 +9,7 @@ use lib.ListN.{length, getD}
 use Rattle.bits.specs.Word.{digit}
 use Rattle.area.specs.Shape.{blocks, recordWords, vectorStart}
 use Rattle.area.specs.Grow.{State}
-use Rattle.index.specs.Key.{Key, member}
+use Rattle.index.specs.Key.{Key, hasRecord}
 use Rattle.index.specs.Image.{child}
 use Rattle.index.proofs.KeyLaws.{Stands}
 use Rattle.index.proofs.GrownLaws.{Rooted}
@@ -21,7 +21,7 @@ pub record Sound5 (ks : List Key) (marks : List Mark) : Type 0 where
   pub once : Once ks
   pub parented : Parented ks
   pub rooted : Rooted 5 ks
-  pub marked : (k : Key) → member k ks ≡ false → (i : ℕ) → markedAt marks k i ≡ false
+  pub marked : (k : Key) → hasRecord k ks ≡ false → (i : ℕ) → markedAt marks k i ≡ false
 
 -- an area that was a₀, with the records of these keys and these marks of n rules
 pub record Recorded (n : ℕ) (a₀ : List ℕ) (ks : List Key) (marks : List Mark) (a : List ℕ) : Type 0 where

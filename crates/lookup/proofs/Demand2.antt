@@ -36,7 +36,7 @@ use Rattle.lookup.specs.Scan.{found}
 use Rattle.lookup.specs.Look.{headerKeys, widths, lookupSteps, foundSaid, stepsSaid, leastWords, lookSaid}
 use Rattle.lookup.proofs.ScanLaws.{chunk, passes, winner}
 use Rattle.lookup.proofs.ShapeLaws.{desk-lawful}
-use Rattle.lookup.proofs.WalkLaws.{image-holds}
+use Rattle.lookup.proofs.WalkLaws.{image-indexed}
 use Rattle.lookup.proofs.HeldLaws.{hitAll, misleads, keysFound, chunk-any, steps-image}
 use Rattle.lookup.proofs.MatchLaws.{keyIn, keys-in, keys-within, hits-in, hits-match}
 use Rattle.lookup.proofs.LookLaws.{said-none, said-match, look-steps}
@@ -124,7 +124,7 @@ module _ (table : List ℕ) (b : Bytes table) (sound : Accepted table) (header :
         ∙ ap some (ap (keysFound deskShape rules) (sym (keys-in header)) ∙ found-same)
 
     enough : leastWords ≤ length area
-    enough = omega (arith, keys-root 5 rules 4 (omega arith) .inside, image-holds deskShape (desk-lawful .sized) rules (need deskShape rules) area held .room)
+    enough = omega (arith, keys-root 5 rules 4 (omega arith) .inside, image-indexed deskShape (desk-lawful .sized) rules (need deskShape rules) area held .room)
 
     -- what is said of what was found is what is said of the winner
     said-same : (o : Option ℕ) → Told (λ place. matches values (ruleAt rules place)) (length rules) o → (falses : ℕ)

@@ -28,7 +28,7 @@ use Rattle.lookup.specs.Scan.{Found, found, meet, resolve}
 use Rattle.lookup.specs.Look.{lookupSteps}
 use Rattle.lookup.proofs.ScanLaws.{chunk, winner, scan-all}
 use Rattle.lookup.proofs.ShapeLaws.{over, Lawful, twoLevel, two-lawful}
-use Rattle.lookup.proofs.WalkLaws.{ends-more, Holds, image-holds, walk-key}
+use Rattle.lookup.proofs.WalkLaws.{ends-more, Indexed, image-indexed, walk-key}
 
 -- ---- rules that keys hit
 
@@ -152,13 +152,13 @@ module _ (S : Shape) (lawful : Lawful S) (rules : List Rule) where
 
   -- ---- the walks
 
-  module _ (area : List ℕ) (H : Holds S rules area) where
+  module _ (area : List ℕ) (held : Indexed S rules area) where
     -- a record whose key has the same hits holds the same vector, and the same stands over it
     parts-at : (n : ℕ) (l k : Key) → Stands (keys (S .fields) rules) n l → map (hit l) rules ≡ map (hit k) rules
         → (summariesAt S area n ≡ S .summary (vector S rules k)) × (vectorAt S area n ≡ vector S rules k)
     unfolding summariesAt vectorAt vector
     parts-at n l k stands e =
-        let row = H .row n l stands in
+        let row = held .row n l stands in
         let v : vector S rules l ≡ vector S rules k = ap (pack (S .size) (S .blocks)) e in (
           ap (λ r. take (S .summaries) (drop 2 r)) row ∙ record-summary S (lawful .sized) rules (keys (S .fields) rules) l ∙ ap (S .summary) v,
           ap (drop (2 + S .summaries)) row ∙ record-vector S (lawful .sized) rules (keys (S .fields) rules) l ∙ v,
@@ -175,7 +175,7 @@ module _ (S : Shape) (lawful : Lawful S) (rules : List Rule) where
     unfolding ends
     ends-reached [] w = record { rows = []; there = refl; overs = refl; vectors = refl }
     ends-reached (k ∷ ks) w =
-        let one = walk-key S rules area H k (w .0) in
+        let one = walk-key S rules area held k (w .0) in
         let more = ends-reached ks (w .1) in
         let here = parts-at (one .end) (one .key) k (one .stands) (one .hits) in
         record {
@@ -196,7 +196,7 @@ module _ (S : Shape) (lawful : Lawful S) (rules : List Rule) where
   -- over an area that starts with the image, whoever wrote it
   pub steps-image : (n : ℕ) (area : List ℕ) → take n area ≡ image S rules → (k : Key) (ks : List Key) → Within (S .fields) (k ∷ ks)
       → length rules ≤ S .blocks * S .size → lookupSteps S area (k ∷ ks) ≡ some (keysFound S rules (k ∷ ks))
-  steps-image n area e = steps-held area (image-holds S (lawful .sized) rules n area e)
+  steps-image n area e = steps-held area (image-indexed S (lawful .sized) rules n area e)
 
 -- so with a second level of aggregation over 128 words: 4096 rules
 pub wide-steps : (rules : List Rule) → length rules ≤ 4096 → (n : ℕ) (area : List ℕ) → take n area ≡ image (twoLevel 5 32 4) rules
