@@ -48,10 +48,6 @@ module _ (n m : ℕ) where
       ⊎-elim (λ e. rw (child-none k b a e) s) (λ l. rw (child-some k b a (λ e. omega arith)) (joined-sound k _ a s))
       (eq-zero-or-pos (getD a (recordWords * k + b) 0))
 
-  pub hand-sound : (j : ℕ) (a : List ℕ) → Sound n m a → Sound n m (handed j a)
-  unfolding handed upto
-  hand-sound j a s = upto-keeps (λ k x. toChild k 1 (toChild k 0 x)) (Sound n m) j a (λ k t l p. child-sound k 1 _ (child-sound k 0 t p)) s
-
   pub child-ready : (k b : ℕ) (a : List ℕ) → recordWords * n ≤ m → k < n → b < 2 → Sound n m a
       → (b < 2) × (recordWords * k + recordWords ≤ length a) × (recordWords * getD a (recordWords * k + b) 0 + recordWords ≤ length a)
   unfolding Kids

@@ -1,5 +1,5 @@
 -- Laws of lists: a test over a list that was joined, mapped or split by another test, a function over a part of a list, how a list ends,
--- and a list of five elements.
+-- a test that follows from another, and a list of five elements.
 -- Assumes nothing.
 use mathlib.Core.Path.{_≡_, refl, sym, ap, ap₂, subst, _∙_, fun-ext}
 use mathlib.Core.Logic.{_⊎_, inl, inr, ⊎-elim}
@@ -12,7 +12,7 @@ use lib.ListN.{length, getD, take, drop}
 use lib.Seq.{drop-cons, drop-length}
 use borrow.Author.Tests.{eqb-true, eqb-false}
 use Rattle.bits.specs.Tests.{any, all}
-use Rattle.bits.proofs.TestLaws.{decided, or-falses}
+use Rattle.bits.proofs.TestLaws.{decided, and-trues, and-both, or-falses, or-trues}
 
 -- ---- one test, two numbers, one test or another
 
@@ -135,6 +135,27 @@ module _ {A : Type 0} where
   snoc-same (a ∷ q) (x ∷ r) b c e =
       let s = snoc-same q r b c (tail-eq-of-cons-eq e) in
       (ap₂ (λ (y : A) (m : List A). y ∷ m) (head-eq-of-cons-eq e) (s .0), s .1)
+
+-- ---- a test that follows from another
+
+module _ {A : Type 0} (t u : A → Bool) (follows : (x : A) → t x ≡ true → u x ≡ true) where
+  pub any-implied : (l : List A) → any t l ≡ true → any u l ≡ true
+  unfolding any
+  any-implied [] h = h
+  any-implied (x ∷ l) h =
+      ⊎-elim (λ e. or-left (u x) (any u l) (follows x e)) (λ e. or-right (u x) (any u l) (any-implied l e)) (or-trues (t x) (any t l) h)
+
+  pub all-implied : (l : List A) → all t l ≡ true → all u l ≡ true
+  unfolding all
+  all-implied [] h = refl
+  all-implied (x ∷ l) h =
+      let s = and-trues (t x) (all t l) h in
+      and-both (u x) (all u l) (follows x (s .0)) (all-implied l (s .1))
+
+pub and-implied : (a b : Bool) → (b ≡ true → a ≡ true) → (a && b) ≡ b
+and-implied a true i = ap (λ x. x && true) (i refl)
+and-implied true false i = refl
+and-implied false false i = refl
 
 -- ---- a list of five
 

@@ -36,7 +36,7 @@ use Rattle.index.proofs.ImageLaws.{desk-sized, length-image, image-word
 use Rattle.index.proofs.MarkLaws.{marksTo, own-words}
 use Rattle.index.proofs.Recorded.{Between}
 use Rattle.index.proofs.Growth.{all-between}
-use Rattle.index.proofs.ForestLaws.{keyOf, forest}
+use Rattle.index.proofs.ForestLaws.{keyOf, kid, forest}
 use Rattle.index.proofs.WholeLaws.{whole-vector}
 
 module _ (table : List ℕ) (sound : AllSound table) (few : ruleCount table ≤ 256) (a₀ : List ℕ) (room : need deskShape (rulesOf table) ≤ length a₀) where
@@ -74,8 +74,8 @@ module _ (table : List ℕ) (sound : AllSound table) (few : ruleCount table ≤ 
       whole-vector (ruleCount table) rules (marksTo table (ruleCount table)) a₀ grownArea (between .recorded) (omega (arith, whole))
       (λ k field. own-words k field table)
 
-  kid : (i : ℕ) → i < count → (b : Bool) → childWord grownArea i (digit b) ≡ child ks (key i) b
-  kid i h b = between .recorded .kids i (key i) b (stands-here ks i h)
+  children : (i : ℕ) → i < count → (b : Bool) → childWord grownArea i (digit b) ≡ child ks (key i) b
+  children = kid (ruleCount table) rules (marksTo table (ruleCount table)) a₀ grownArea (between .recorded) (omega (arith, whole))
 
   -- ---- the aggregates
 
@@ -101,9 +101,9 @@ module _ (table : List ℕ) (sound : AllSound table) (few : ruleCount table ≤ 
   record-word : (i r : ℕ) → i < count → r < recordWords → getD builtArea (recordWords * i + r) 0 ≡ getD (recordOf deskShape rules ks (key i)) r 0
   unfolding recordOf aggregate pack
   record-word i zero h hr =
-      summed-other (recordWords * i + 0) handedArea (λ k e. omega arith) count ∙ sweep-kids grownArea count trees count i 0 (omega arith) ∙ kid i h false
+      summed-other (recordWords * i + 0) handedArea (λ k e. omega arith) count ∙ sweep-kids grownArea count trees count i 0 (omega arith) ∙ children i h false
   record-word i (suc zero) h hr =
-      summed-other (recordWords * i + 1) handedArea (λ k e. omega arith) count ∙ sweep-kids grownArea count trees count i 1 (omega arith) ∙ kid i h true
+      summed-other (recordWords * i + 1) handedArea (λ k e. omega arith) count ∙ sweep-kids grownArea count trees count i 1 (omega arith) ∙ children i h true
   record-word i (suc (suc zero)) h hr = summed-at i count handedArea h (omega (arith, handed-length, whole)) ∙ aggregate-word i h
   record-word i (suc (suc (suc v))) h hr =
       ap (λ (x : ℕ). getD builtArea x 0) (omega arith)

@@ -4,11 +4,11 @@ use mathlib.Core.Path.{_≡_, refl, sym, ap, ap₂, _∙_}
 use mathlib.Core.Logic.{⊎-elim}
 use mathlib.Core.Bool.{Bool, true, false, _&&_, _||_, or-false}
 use mathlib.Core.List.{List, [], _∷_, _++_}
-use Prim.Native.Nat.{ℕ, zero, suc, _+_, _-_, _<_, max}
+use Prim.Native.Nat.{ℕ, zero, suc, _+_, _-_, max}
 use native.Mathlib.Nat.{add-zero, add-assoc}
 use native.Mathlib.Omega.{arith}
 use lib.Dec.{eqb, leb, leb·suc-zero}
-use lib.ListN.{length, getD, length-append}
+use lib.ListN.{length, length-append}
 use lib.Seq.{append-snoc}
 use borrow.Author.Tests.{leb-true, leb-false, le-leb}
 use Rattle.bits.specs.Path.{Path, leads, common}
@@ -20,7 +20,7 @@ use Rattle.rules.specs.Rule.{Rule}
 use Rattle.index.specs.Key.{Key, at, hasRecord}
 use Rattle.index.specs.Keys.{grown, grow, stepsFrom, insert, insertAll, inserts, rootsFrom, keys}
 use Rattle.index.specs.Need.{commonWith, longest, fresh, records}
-use Rattle.index.proofs.KeyLaws.{noKey, beyond, further, sameKey-ne, longer, Stands, stands-here}
+use Rattle.index.proofs.KeyLaws.{beyond, further, sameKey-ne, longer}
 use Rattle.index.proofs.GrownLaws.{grown-old, grown-new, grown-hasRecord}
 use Rattle.index.proofs.ReachLaws.{Below, below-beyond, through, insertAll-hasRecord, roots-hasRecord}
 
@@ -130,6 +130,3 @@ pub records-law : (n : ℕ) (rules : List Rule) → length (keys n rules) ≡ re
 unfolding keys records
 records-law n rules =
     insertAll-length (rootsFrom 0 n) [] (inserts n rules) (roots-made n) ∙ ap (λ (x : ℕ). x + fresh [] (inserts n rules)) (length-roots 0 n)
-
-pub records-stand : (n : ℕ) (rules : List Rule) (i : ℕ) → i < records n rules → Stands (keys n rules) i (getD (keys n rules) i noKey)
-records-stand n rules i h = stands-here (keys n rules) i (rw records-law h)

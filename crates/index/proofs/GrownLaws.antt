@@ -1,4 +1,4 @@
--- What growing adds to a list of keys: new ones behind, each once, so that the records that were there keep their numbers.
+-- What growing adds to a list of keys: those that have no record yet, behind the others, so that the records that were there keep their numbers.
 -- Assumes nothing.
 use mathlib.Core.Path.{_≡_, refl, sym, ap, _∙_}
 use mathlib.Core.Logic.{⊎-elim}

@@ -15,9 +15,8 @@ use Rattle.bits.proofs.ListLaws.{or-right}
 use Rattle.rules.specs.Rule.{Rule}
 use Rattle.index.specs.Key.{Key, at, sameKey, hasRecord, placeFrom, pathsIn}
 use Rattle.index.specs.Keys.{grown, grow, stepsFrom, insert, insertAll, ruleInserts, inserts, rootsFrom, keys}
-use Rattle.index.specs.Image.{child}
 use Rattle.index.proofs.KeyLaws.{further, sameKey-refl, further-same, Stands, stands-append, stands-snoc, stands-hasRecord, place-here, place-later, place-in, place-out}
-use Rattle.index.proofs.GrownLaws.{grown-old, grown-new, grown-keeps, grow-keeps, insertAll-keeps, grow-at, grown-hasRecord, roots-at, Rooted, roots-rooted}
+use Rattle.index.proofs.GrownLaws.{grown-old, grown-new, grown-keeps, insertAll-keeps, grow-at, grown-hasRecord, roots-at, Rooted, roots-rooted}
 use Rattle.index.proofs.CountLaws.{length-roots}
 
 -- ---- each key once
@@ -40,9 +39,6 @@ once-snoc ks k new once i j l s t = both (stands-snoc ks k i l s) (stands-snoc k
 
 pub once-grown : (ks : List Key) (k : Key) → Once ks → Once (grown ks k)
 once-grown = grown-keeps Once once-snoc
-
-pub once-grow : (ks new : List Key) → Once ks → Once (grow ks new)
-once-grow = grow-keeps Once once-snoc
 
 pub once-insertAll : (ks new : List Key) → Once ks → Once (insertAll ks new)
 once-insertAll = insertAll-keeps Once once-snoc
@@ -170,14 +166,6 @@ roots-parented n i k b s = absurd (concat-ne-nil b (k .path) (ap (λ (l : Key). 
 pub keys-parented : (n : ℕ) (rules : List Rule) → Parented (keys n rules)
 unfolding keys
 keys-parented n rules = parented-insertAll n (rootsFrom 0 n) (inserts n rules) (within-inserts n rules) (roots-rooted n) (roots-parented n)
-
--- a child has a higher number than its record
-pub child-later : (ks : List Key) → Once ks → Parented ks → (i : ℕ) (k : Key) (b : Bool) → Stands ks i k
-    → hasRecord (further k b) ks ≡ true → i < child ks k b
-unfolding child
-child-later ks once P i k b s m =
-    let p = P (placeFrom 0 (further k b) ks) k b (place-in (further k b) ks m) in
-    omega (arith, p .1, once i (p .0) k s (p .2))
 
 -- ---- one key more at the end
 

@@ -12,7 +12,7 @@ use Rattle.area.specs.Shape.{recordWords}
 use Rattle.area.specs.Upto.{upto}
 use Rattle.area.specs.Grow.{zeroed, State, mk, walked, inserted, Kids, Ready, Roomy}
 use Rattle.area.proofs.ZeroLaws.{length-zeroed, zeroed-inside}
-use Rattle.area.proofs.GrowLaws.{walked-le, walked-ready, bit-kids, bit-length, Kept, Good, state, upto-good}
+use Rattle.area.proofs.GrowLaws.{walked-le, walked-ready, bit-kids, bit-length, Kept, Good, upto-good}
 use Rattle.index.specs.Steps.{fieldIn, ruleIn, rulesIn, cleared, allIn}
 
 -- a field's root may be stood at
@@ -82,11 +82,3 @@ unfolding allIn cleared
 all-start table a b e h r =
     let k = cleared-ready a (room-roots table a (length a) h r) in
     rw e (k .ready, rw (k .long) r)
-
-pub all-kept : (table a : List ℕ) → ruleCount table ≤ 256 → Roomy (allIn table a) (length a) → Kept (mk a 0 5) (allIn table a)
-unfolding allIn rulesIn
-all-kept table a h r =
-    let start = cleared-ready a (room-roots table a (length a) h r) in
-    let n = ruleCount table in
-    let end = state (λ i. ruleIn (recordAt table i) i) n (rules-good table h) (cleared a) (start .ready) (rw (start .long) r) n (le-refl n) in
-    record { ready = end .ready; long = end .long ∙ start .long }

@@ -2,7 +2,6 @@
 -- deceive before it.
 -- Assumes nothing.
 use mathlib.Core.Path.{_≡_, refl, sym, ap, ap₂, _∙_, fun-ext}
-use mathlib.Core.Logic.{⊎-elim}
 use mathlib.Core.Bool.{Bool, true, not, _&&_}
 use mathlib.Core.List.{List, [], _∷_, map}
 use mathlib.Core.Option.{Option, some}
@@ -12,8 +11,8 @@ use lib.Bits.{bitAnd}
 use lib.ListN.{length, getD, take, drop, replicate, length-map, length-take}
 use Rattle.bits.specs.Word.{wordOf, pack, nonzero, andAll}
 use Rattle.bits.specs.Tests.{any, all, count}
-use Rattle.bits.proofs.TestLaws.{and-trues, and-both, or-trues}
-use Rattle.bits.proofs.ListLaws.{or-left, or-right, any-map, all-ext, all-map, map-ext, take-map, drop-map, map-map}
+use Rattle.bits.proofs.TestLaws.{and-trues, and-both}
+use Rattle.bits.proofs.ListLaws.{any-map, all-ext, all-map, map-ext, take-map, drop-map, map-map, any-implied}
 use Rattle.bits.proofs.WordLaws.{pack-at, nonzero-word, zipAnd, and-word, mask-word}
 use Rattle.rules.specs.Rule.{Rule}
 use Rattle.rules.specs.Match.{blockOf, blocksBefore}
@@ -22,6 +21,7 @@ use Rattle.index.specs.Key.{Key, hit}
 use Rattle.index.specs.Keys.{keys}
 use Rattle.index.specs.Image.{vector, image}
 use Rattle.index.proofs.KeyLaws.{Stands}
+use Rattle.index.proofs.OrderLaws.{Within}
 use Rattle.index.proofs.ImageLaws.{record-summary, record-vector}
 use Rattle.lookup.specs.Walk.{ends, summariesAt, vectorAt}
 use Rattle.lookup.specs.Scan.{Found, found, meet, resolve}
@@ -81,12 +81,6 @@ and-fields size c h t (k ∷ ks) =
 
 -- ---- a block in which all keys hit a rule is one in which each hits some rule
 
-any-implied : (t u : Rule → Bool) → ((r : Rule) → t r ≡ true → u r ≡ true) → (c : List Rule) → any t c ≡ true → any u c ≡ true
-unfolding any
-any-implied t u i [] h = h
-any-implied t u i (r ∷ c) h =
-    ⊎-elim (λ e. or-left (u r) (any u c) (i r e)) (λ e. or-right (u r) (any u c) (any-implied t u i c e)) (or-trues (t r) (any t c) h)
-
 each-hits : (ks : List Key) (c : List Rule) → any (hitAll ks) c ≡ true → all (λ k. any (hit k) c) ks ≡ true
 unfolding hitAll all
 each-hits [] c h = refl
@@ -94,11 +88,6 @@ each-hits (k ∷ ks) c h =
     and-both (any (hit k) c) (all (λ k. any (hit k) c) ks)
     (any-implied (hitAll (k ∷ ks)) (hit k) (λ r e. and-trues (hit k r) (hitAll ks r) e .0) c h)
     (each-hits ks c (any-implied (hitAll (k ∷ ks)) (hitAll ks) (λ r e. and-trues (hit k r) (hitAll ks r) e .1) c h))
-
--- the keys are of the index's n fields
-abbrev pub Within : ℕ → List Key → Type 0
-Within n [] = Unit {0}
-Within n (k ∷ ks) = (k .field < n) × Within n ks
 
 -- ---- the blocks in order, from what the index holds of the keys
 
