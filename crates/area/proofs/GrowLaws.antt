@@ -12,9 +12,12 @@ use lib.ListN.{length, set, length-set}
 use lib.Seq.{getD-set-other}
 use borrow.Author.Tests.{eq-eqb, ne-eqb}
 use Rattle.bits.specs.Path.{bitOf}
+use Rattle.bits.proofs.StoreLaws.{either-way}
+use Rattle.bits.proofs.DigitLaws.{bit-small}
+use Rattle.area.specs.Shape.{recordWords, vectorStart}
 use Rattle.area.specs.Upto.{upto}
-use Rattle.area.specs.Grow.{recordWords, vectorAt, State, mk, made, kid, down, walked, withBit, Kids, Ready, Roomy}
-use Rattle.area.proofs.ZeroLaws.{length-zeroed, zeroed-below, zeroed-inside, either-way}
+use Rattle.area.specs.Grow.{State, mk, made, kid, down, walked, withBit, Kids, Ready, Roomy}
+use Rattle.area.proofs.ZeroLaws.{length-zeroed, zeroed-below, zeroed-inside}
 
 -- ---- one step
 
@@ -46,10 +49,7 @@ down-le b s = by-kid (λ t. s .next ≤ t .next) b s (λ e. omega arith) (λ l. 
 pub made-length : (b : ℕ) (a : List ℕ) (t n : ℕ) → recordWords * (n + 1) ≤ length a → length (made b a t n .area) ≡ length a
 unfolding made
 made-length b a t n room =
-    length-zeroed (recordWords * n) (recordWords * n + 11) (set a (recordWords * t + b) n) (omega arith) (simp length-set (omega arith)) ∙ length-set a (recordWords * t + b) n
-
-pub bit-lt : (w v j : ℕ) → bitOf w v j < 2
-bit-lt w v j = omega arith
+    length-zeroed (recordWords * n) (recordWords * n + recordWords) (set a (recordWords * t + b) n) (omega arith) (simp length-set (omega arith)) ∙ length-set a (recordWords * t + b) n
 
 module _ (b : ℕ) (s : State) (hb : b < 2) (r : Ready s) where
   made-kids : recordWords * (s .next + 1) ≤ length (s .area) → Kids (made b (s .area) (s .at) (s .next) .area) (s .next + 1)
@@ -59,10 +59,10 @@ module _ (b : ℕ) (s : State) (hb : b < 2) (r : Ready s) where
       let l : length a ≡ length (s .area) = length-set (s .area) (recordWords * s .at + b) (s .next) in
       let from = recordWords * s .next in
       ⊎-elim
-      (λ (e : k ≡ s .next). rw (zeroed-inside from (from + 11) (recordWords * k + c) a (omega arith) (omega arith) (omega arith) (omega arith)) (omega arith))
+      (λ (e : k ≡ s .next). rw (zeroed-inside from (from + recordWords) (recordWords * k + c) a (omega arith) (omega arith) (omega arith) (omega arith)) (omega arith))
       (λ (h : k < s .next).
-      rw (zeroed-below from (from + 11) (recordWords * k + c) a (omega arith) (omega arith) (omega arith))
-      (either-way (λ w. w < s .next + 1) (s .area) (recordWords * s .at + b) (s .next) (recordWords * k + c) (omega arith) (omega (arith, r .kids k c h hc))))
+      rw (zeroed-below from (from + recordWords) (recordWords * k + c) a (omega arith) (omega arith) (omega arith))
+      (either-way (λ w. w < s .next + 1) (s .area) (recordWords * s .at + b) (s .next) (recordWords * k + c) 0 (omega arith) (omega (arith, r .kids k c h hc))))
       (eq-or-lt-of-le {n = k} {m = s .next} (omega arith))
 
   pub down-length : Roomy (down b s) (length (s .area)) → length (down b s .area) ≡ length (s .area)
@@ -93,7 +93,7 @@ walked-ready w v n s r room (suc j) h =
     let le = walked-le w v s (suc j) n h in
     let here : Roomy (down (bitOf w v j) (walked w v j s)) (length (walked w v j s .area)) =
     record { room = omega (arith, le, room .room, ih .0); small = omega (arith, le, room .small) } in
-    (down-length _ _ (bit-lt w v j) (ih .1) here ∙ ih .0, down-ready _ _ (bit-lt w v j) (ih .1) here)
+    (down-length _ _ (bit-small w v j) (ih .1) here ∙ ih .0, down-ready _ _ (bit-small w v j) (ih .1) here)
 
 -- one more step, of any state t and bit b that are those of the walk
 module _ (w v n : ℕ) (s : State) (j : ℕ) (t : State) (b : ℕ) (here : t ≡ walked w v j s) (bit : b ≡ bitOf w v j) where
@@ -107,16 +107,16 @@ module _ (w v n : ℕ) (s : State) (j : ℕ) (t : State) (b : ℕ) (here : t ≡
       let ih = walked-ready w v n s r room j (omega arith) in
       let le = walked-le w v s (suc j) n (omega arith) in
       rw (here, bit)
-      (bit-lt w v j, ih .1, record { room = omega (arith, le, room .room, ih .0); small = omega (arith, le, room .small) })
+      (bit-small w v j, ih .1, record { room = omega (arith, le, room .room, ih .0); small = omega (arith, le, room .small) })
 
-pub walked-end : (w v n : ℕ) (s t : State) → Ready s → Roomy (walked w v n s) (length (s .area)) → t ≡ walked w v n s → recordWords * t .at + 11 ≤ length (t .area)
+pub walked-end : (w v n : ℕ) (s t : State) → Ready s → Roomy (walked w v n s) (length (s .area)) → t ≡ walked w v n s → recordWords * t .at + recordWords ≤ length (t .area)
 walked-end w v n s t r room e = let f = walked-ready w v n s r room n (le-refl n) .1 in rw e (omega (arith, f .inside, f .whole))
 
 -- ---- setting a bit touches neither children nor length
 
 pub bit-kids : (t i n : ℕ) (a : List ℕ) → i < 256 → Kids a n → Kids (withBit t i a) n
 unfolding Kids withBit
-bit-kids t i n a h kids k b hk hb = rw (getD-set-other a (recordWords * t + vectorAt + i / 32) (recordWords * k + b) _ 0 (λ e. omega arith)) (kids k b hk hb)
+bit-kids t i n a h kids k b hk hb = rw (getD-set-other a (recordWords * t + vectorStart + i / 32) (recordWords * k + b) _ 0 (λ e. omega arith)) (kids k b hk hb)
 
 pub bit-length : (t i : ℕ) (a : List ℕ) → length (withBit t i a) ≡ length a
 unfolding withBit

@@ -8,17 +8,17 @@ use Prim.Native.Nat.{ℕ, zero, suc, _+_, _*_, _^_, _≤_, _<_}
 use native.Mathlib.Nat.{eq-zero-or-pos, eq-or-lt-of-le, zero-add, one-mul}
 use native.Mathlib.Omega.{arith}
 use lib.Bits.{bitOr, or-shifted-r}
-use lib.ListN.{length, getD, set, length-map, length-set}
+use lib.ListN.{length, getD, set, length-set}
 use lib.Seq.{getD-set-same, getD-set-other}
 use borrow.Author.Tests.{eq-eqb, ne-eqb}
-use Rattle.bits.specs.Tests.{upFrom}
 use Rattle.bits.specs.Word.{digit, wordOf, nonzero}
-use Rattle.bits.proofs.EachLaws.{up-size, up-snoc}
+use Rattle.bits.specs.Tests.{upFrom}
+use Rattle.bits.proofs.EachLaws.{up-snoc}
+use Rattle.bits.proofs.PlaceLaws.{length-places}
 use Rattle.bits.proofs.WordLaws.{word-small, word-snoc}
+use Rattle.area.specs.Shape.{blocks, recordWords, aggregateStart, vectorStart}
 use Rattle.area.specs.Upto.{upto}
-use Rattle.area.specs.Grow.{recordWords, vectorAt}
-use Rattle.area.specs.Hand.{blocks}
-use Rattle.area.specs.Sums.{aggregateAt, marked, sumAt, summed}
+use Rattle.area.specs.Sums.{marked, sumAt, summed}
 use Rattle.area.proofs.UptoLaws.{upto-more}
 
 pub mark-none : (x w g : ℕ) → x ≡ 0 → marked x w g ≡ g
@@ -33,9 +33,9 @@ pub sum-more : (a : List ℕ) (at n : ℕ) → marked (getD a (at + n) 0) n (sum
 unfolding sumAt
 sum-more a at n = sym (upto-more (λ w g. marked (getD a (at + w) 0) w g) n 0)
 
-pub summed-more : (a : List ℕ) (k : ℕ) → set (summed k a) (recordWords * k + aggregateAt) (sumAt (summed k a) (recordWords * k + vectorAt) blocks) ≡ summed (k + 1) a
+pub summed-more : (a : List ℕ) (k : ℕ) → set (summed k a) (recordWords * k + aggregateStart) (sumAt (summed k a) (recordWords * k + vectorStart) blocks) ≡ summed (k + 1) a
 unfolding summed
-summed-more a k = sym (upto-more (λ j x. set x (recordWords * j + aggregateAt) (sumAt x (recordWords * j + vectorAt) blocks)) k a)
+summed-more a k = sym (upto-more (λ j x. set x (recordWords * j + aggregateStart) (sumAt x (recordWords * j + vectorStart) blocks)) k a)
 
 -- ---- what a sum says
 
@@ -47,11 +47,11 @@ flags-more a at n =
     let g : ℕ → Bool = λ w. nonzero (getD a (at + w) 0) in
     ap wordOf (ap (map g) (up-snoc 0 n) ∙ map-append g (upFrom 0 n) ((0 + n) ∷ []))
     ∙ word-snoc (flags a at n) (g (0 + n))
-    ∙ ap₂ (λ (w m : ℕ). wordOf (flags a at n) + digit (g w) * 2 ^ m) (zero-add n) (length-map (upFrom 0 n) g ∙ up-size 0 n)
+    ∙ ap₂ (λ (w m : ℕ). wordOf (flags a at n) + digit (g w) * 2 ^ m) (zero-add n) (length-places g n)
 
 flags-small : (a : List ℕ) (at n : ℕ) → wordOf (flags a at n) < 2 ^ n
 flags-small a at n =
-    subst (λ (m : ℕ). wordOf (flags a at n) < 2 ^ m) (length-map (upFrom 0 n) (λ w. nonzero (getD a (at + w) 0)) ∙ up-size 0 n) (word-small (flags a at n))
+    subst (λ (m : ℕ). wordOf (flags a at n) < 2 ^ m) (length-places (λ w. nonzero (getD a (at + w) 0)) n) (word-small (flags a at n))
 
 flags-none : (a : List ℕ) (at : ℕ) → wordOf (flags a at 0) ≡ 0
 unfolding upFrom wordOf
@@ -81,15 +81,15 @@ unfolding summed upto
 summed-length zero a = refl
 summed-length (suc n) a = length-set (summed n a) _ _ ∙ summed-length n a
 
-pub summed-other : (j : ℕ) (a : List ℕ) → ((k : ℕ) → j ≡ recordWords * k + aggregateAt → ⊥) → (n : ℕ) → getD (summed n a) j 0 ≡ getD a j 0
+pub summed-other : (j : ℕ) (a : List ℕ) → ((k : ℕ) → j ≡ recordWords * k + aggregateStart → ⊥) → (n : ℕ) → getD (summed n a) j 0 ≡ getD a j 0
 unfolding summed upto
 summed-other j a ne zero = refl
-summed-other j a ne (suc n) = getD-set-other (summed n a) (recordWords * n + aggregateAt) j _ 0 (ne n) ∙ summed-other j a ne n
+summed-other j a ne (suc n) = getD-set-other (summed n a) (recordWords * n + aggregateStart) j _ 0 (ne n) ∙ summed-other j a ne n
 
 pub summed-beyond : (j n : ℕ) (a : List ℕ) → recordWords * n ≤ j → getD (summed n a) j 0 ≡ getD a j 0
 unfolding summed upto
 summed-beyond j zero a h = refl
-summed-beyond j (suc n) a h = getD-set-other (summed n a) (recordWords * n + aggregateAt) j _ 0 (λ e. omega arith) ∙ summed-beyond j n a (omega arith)
+summed-beyond j (suc n) a h = getD-set-other (summed n a) (recordWords * n + aggregateStart) j _ 0 (λ e. omega arith) ∙ summed-beyond j n a (omega arith)
 
 -- the vector words that a sum reads stay, so that it is the sum of what was there
 sum-same : (a b : List ℕ) (at n : ℕ) → ((w : ℕ) → w < n → getD a (at + w) 0 ≡ getD b (at + w) 0) → sumAt a at n ≡ sumAt b at n
@@ -97,15 +97,15 @@ unfolding sumAt upto
 sum-same a b at zero e = refl
 sum-same a b at (suc n) e = ap₂ (λ (x s : ℕ). marked x n s) (e n (omega arith)) (sum-same a b at n (λ w h. e w (omega arith)))
 
-pub summed-at : (k n : ℕ) (a : List ℕ) → k < n → recordWords * n ≤ length a → getD (summed n a) (recordWords * k + aggregateAt) 0 ≡ sumAt a (recordWords * k + vectorAt) blocks
+pub summed-at : (k n : ℕ) (a : List ℕ) → k < n → recordWords * n ≤ length a → getD (summed n a) (recordWords * k + aggregateStart) 0 ≡ sumAt a (recordWords * k + vectorStart) blocks
 unfolding summed upto
 summed-at k zero a h room = absurd (omega arith)
 summed-at k (suc n) a h room =
     ⊎-elim
     (λ (e : k ≡ n).
-    ap (λ (x : ℕ). getD (set (summed n a) (recordWords * n + aggregateAt) (sumAt (summed n a) (recordWords * n + vectorAt) blocks)) (recordWords * x + aggregateAt) 0) e
-    ∙ getD-set-same (summed n a) (recordWords * n + aggregateAt) _ 0 (omega (arith, summed-length n a))
-    ∙ sum-same (summed n a) a (recordWords * n + vectorAt) blocks (λ w hw. summed-other (recordWords * n + vectorAt + w) a (λ m q. omega arith) n)
-    ∙ ap (λ (x : ℕ). sumAt a (recordWords * x + vectorAt) blocks) (sym e))
-    (λ (l : k < n). getD-set-other (summed n a) (recordWords * n + aggregateAt) (recordWords * k + aggregateAt) _ 0 (λ q. omega arith) ∙ summed-at k n a l (omega arith))
+    ap (λ (x : ℕ). getD (set (summed n a) (recordWords * n + aggregateStart) (sumAt (summed n a) (recordWords * n + vectorStart) blocks)) (recordWords * x + aggregateStart) 0) e
+    ∙ getD-set-same (summed n a) (recordWords * n + aggregateStart) _ 0 (omega (arith, summed-length n a))
+    ∙ sum-same (summed n a) a (recordWords * n + vectorStart) blocks (λ w hw. summed-other (recordWords * n + vectorStart + w) a (λ m q. omega arith) n)
+    ∙ ap (λ (x : ℕ). sumAt a (recordWords * x + vectorStart) blocks) (sym e))
+    (λ (l : k < n). getD-set-other (summed n a) (recordWords * n + aggregateStart) (recordWords * k + aggregateStart) _ 0 (λ q. omega arith) ∙ summed-at k n a l (omega arith))
     (eq-or-lt-of-le {n = k} {m = n} (omega arith))

@@ -1,8 +1,8 @@
 -- Laws of clearing: what is zeroed, and what stays.
 -- Assumes nothing.
 use mathlib.Core.Path.{_≡_, sym, ap, _∙_}
-use mathlib.Core.List.{List, [], _∷_, _++_, append-assoc}
-use Prim.Native.Nat.{ℕ, zero, suc, _+_, _-_, _≤_, _<_}
+use mathlib.Core.List.{List, _++_, append-assoc}
+use Prim.Native.Nat.{ℕ, _+_, _-_, _≤_, _<_}
 use native.Mathlib.Nat.{sub-self}
 use native.Mathlib.Numerals.{add-one}
 use native.Mathlib.Omega.{arith}
@@ -53,11 +53,3 @@ module _ (start end k : ℕ) (a : List ℕ) (h : start ≤ end) (l : end ≤ len
       ∙ getD-append-add (take start a ++ replicate (end - start) 0) (drop end a) (k - end) 0
       ∙ getD-drop end a (k - end) 0
       ∙ ap (λ (i : ℕ). getD a i 0) back
-
--- what holds of a word and of what is stored somewhere holds of the word after the store
-pub either-way : (P : ℕ → Type 0) (a : List ℕ) (i v k : ℕ) → P v → P (getD a k 0) → P (getD (set a i v) k 0)
-either-way P [] i v k p q = q
-either-way P (x ∷ a) zero v zero p q = p
-either-way P (x ∷ a) zero v (suc k) p q = q
-either-way P (x ∷ a) (suc i) v zero p q = q
-either-way P (x ∷ a) (suc i) v (suc k) p q = either-way P a i v k p q

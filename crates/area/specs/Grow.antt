@@ -7,13 +7,8 @@ use lib.Bits.{bitOr}
 use lib.Dec.{eqb}
 use lib.ListN.{length, getD, set, take, drop, replicate}
 use Rattle.bits.specs.Path.{bitOf}
+use Rattle.area.specs.Shape.{recordWords, vectorStart}
 use Rattle.area.specs.Upto.{upto}
-
-abbrev pub recordWords : ℕ
-recordWords = 11
-
-abbrev pub vectorAt : ℕ
-vectorAt = 3
 
 -- an area with zeros from `start` up to, not including, `end`
 unfoldable pub zeroed : ℕ → ℕ → List ℕ → List ℕ
@@ -46,7 +41,7 @@ walked w v n s = upto (λ j. down (bitOf w v j)) n s
 
 -- rule i's bit in the vector of record t
 unfoldable pub withBit : ℕ → ℕ → List ℕ → List ℕ
-withBit t i a = set a (recordWords * t + vectorAt + i / 32) (bitOr (getD a (recordWords * t + vectorAt + i / 32) 0) (2 ^ (i % 32)))
+withBit t i a = set a (recordWords * t + vectorStart + i / 32) (bitOr (getD a (recordWords * t + vectorStart + i / 32) 0) (2 ^ (i % 32)))
 
 unfoldable pub inserted : ℕ → ℕ → ℕ → ℕ → State → State
 inserted w v n i s = mk (withBit (walked w v n s .at) i (walked w v n s .area)) (walked w v n s .at) (walked w v n s .next)

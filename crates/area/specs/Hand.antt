@@ -6,23 +6,19 @@ use Prim.Native.Nat.{ℕ, _+_, _*_}
 use lib.Bits.{bitOr}
 use lib.Dec.{eqb}
 use lib.ListN.{getD, set}
+use Rattle.area.specs.Shape.{blocks, recordWords, vectorStart}
 use Rattle.area.specs.Upto.{upto}
-use Rattle.area.specs.Grow.{recordWords, vectorAt}
-
--- the words of a vector
-abbrev pub blocks : ℕ
-blocks = 8
 
 -- word v of record r's vector, and record r's child for bit b
 abbrev pub vectorWord : List ℕ → ℕ → ℕ → ℕ
-vectorWord a r v = getD a (recordWords * r + vectorAt + v) 0
+vectorWord a r v = getD a (recordWords * r + vectorStart + v) 0
 
 abbrev pub childWord : List ℕ → ℕ → ℕ → ℕ
 childWord a r b = getD a (recordWords * r + b) 0
 
 -- word w of record k's vector goes into that of record c's
 abbrev pub orWord : ℕ → ℕ → ℕ → List ℕ → List ℕ
-orWord k c w a = set a (recordWords * c + vectorAt + w) (bitOr (vectorWord a c w) (vectorWord a k w))
+orWord k c w a = set a (recordWords * c + vectorStart + w) (bitOr (vectorWord a c w) (vectorWord a k w))
 
 unfoldable pub joined : ℕ → ℕ → List ℕ → List ℕ
 joined k c a = upto (orWord k c) blocks a

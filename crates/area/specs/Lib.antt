@@ -1,4 +1,6 @@
--- What the inner loops of the build do to an area, step by step. No public statement cites these: `index` joins them to the image.
+-- The shape of an index record; and what the inner loops of the build do to an area, step by step: no public statement cites those,
+-- `index` joins them to the image.
+pub mod Shape
 pub mod Upto
 pub mod Grow
 pub mod Hand

@@ -6,12 +6,8 @@ use Prim.Native.Nat.{ℕ, _+_, _*_, _^_}
 use lib.Bits.{bitOr}
 use lib.Dec.{eqb}
 use lib.ListN.{getD, set}
+use Rattle.area.specs.Shape.{blocks, recordWords, aggregateStart, vectorStart}
 use Rattle.area.specs.Upto.{upto}
-use Rattle.area.specs.Grow.{recordWords, vectorAt}
-use Rattle.area.specs.Hand.{blocks}
-
-abbrev pub aggregateAt : ℕ
-aggregateAt = 2
 
 unfoldable pub marked : ℕ → ℕ → ℕ → ℕ
 marked word w sum = cond (eqb word 0) sum (bitOr sum (2 ^ w))
@@ -21,4 +17,4 @@ unfoldable pub sumAt : List ℕ → ℕ → ℕ → ℕ
 sumAt a at n = upto (λ w sum. marked (getD a (at + w) 0) w sum) n 0
 
 unfoldable pub summed : ℕ → List ℕ → List ℕ
-summed n a = upto (λ k x. set x (recordWords * k + aggregateAt) (sumAt x (recordWords * k + vectorAt) blocks)) n a
+summed n a = upto (λ k x. set x (recordWords * k + aggregateStart) (sumAt x (recordWords * k + vectorStart) blocks)) n a

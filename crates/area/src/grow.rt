@@ -1,10 +1,11 @@
 // Growing: the records of a path are found or made, and a rule's bit is set at the path's end.
 use crate::RECORD_WORDS;
-use crate::VECTOR_AT;
+use crate::VECTOR_START;
 ghost use mathlib.Core.Path.{_≡_};
 ghost use Prim.Native.Nat.{_+_, _*_, _≤_, _<_};
 ghost use lib.ListN.{length};
-ghost use Rattle.area.specs.Grow.{recordWords, zeroed, mk, down, walked, inserted, withBit, Ready, Roomy};
+ghost use Rattle.area.specs.Shape.{recordWords};
+ghost use Rattle.area.specs.Grow.{zeroed, mk, down, walked, inserted, withBit, Ready, Roomy};
 
 // Where a walk stands, and the number of the next record to be made.
 pub struct Spot {
@@ -65,7 +66,7 @@ fn set_bit(area: &mut [u32], at: usize, rule: usize)
     requires { ⌜ (recordWords * at + recordWords ≤ length (now area)) × (rule < 256) ⌝ }
     ensures { λ _. ⌜ now (area .exit) ≡ withBit at rule (now (area .entry)) ⌝ }
 {
-    let word = RECORD_WORDS * at + VECTOR_AT + rule / 32;
+    let word = RECORD_WORDS * at + VECTOR_START + rule / 32;
     area[word] |= 1u32 << (rule % 32);
 }
 

@@ -2,11 +2,12 @@
 // numbers than their parents, so that what is handed on is whole.
 use crate::BLOCKS;
 use crate::RECORD_WORDS;
-use crate::VECTOR_AT;
+use crate::VECTOR_START;
 ghost use mathlib.Core.Path.{_≡_};
 ghost use Prim.Native.Nat.{_+_, _*_, _≤_, _<_};
 ghost use lib.ListN.{length, getD};
-ghost use Rattle.area.specs.Grow.{recordWords, Kids};
+ghost use Rattle.area.specs.Shape.{recordWords};
+ghost use Rattle.area.specs.Grow.{Kids};
 ghost use Rattle.area.specs.Hand.{joined, toChild, handed};
 
 // Record k's vector goes into record c's.
@@ -14,8 +15,8 @@ fn or_into(area: &mut [u32], k: usize, c: usize)
     requires { ⌜ (recordWords * k + recordWords ≤ length (now area)) × (recordWords * c + recordWords ≤ length (now area)) ⌝ }
     ensures { λ _. ⌜ now (area .exit) ≡ joined k c (now (area .entry)) ⌝ }
 {
-    let parent = RECORD_WORDS * k + VECTOR_AT;
-    let child = RECORD_WORDS * c + VECTOR_AT;
+    let parent = RECORD_WORDS * k + VECTOR_START;
+    let child = RECORD_WORDS * c + VECTOR_START;
     for w in 0..BLOCKS {
         let word = area[parent + w];
         area[child + w] |= word;

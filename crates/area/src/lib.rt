@@ -11,8 +11,8 @@ pub use sums::aggregate_all;
 
 pub const RECORD_WORDS: usize = 11;
 
-pub const AGGREGATE_AT: usize = 2;
+pub const AGGREGATE_START: usize = 2;
 
-pub const VECTOR_AT: usize = 3;
+pub const VECTOR_START: usize = 3;
 
 pub const BLOCKS: usize = 8;

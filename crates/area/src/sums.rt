@@ -1,12 +1,12 @@
 // Aggregates: which words of a record's vector are not zero.
-use crate::AGGREGATE_AT;
+use crate::AGGREGATE_START;
 use crate::BLOCKS;
 use crate::RECORD_WORDS;
-use crate::VECTOR_AT;
+use crate::VECTOR_START;
 ghost use mathlib.Core.Path.{_≡_};
 ghost use Prim.Native.Nat.{_+_, _*_, _≤_, _<_};
 ghost use lib.ListN.{length};
-ghost use Rattle.area.specs.Grow.{recordWords};
+ghost use Rattle.area.specs.Shape.{recordWords};
 ghost use Rattle.area.specs.Sums.{marked, sumAt, summed};
 
 // `sum` with bit w set where the word is not zero.
@@ -38,7 +38,7 @@ pub fn aggregate_all(area: &mut [u32], count: usize)
     ensures { λ _. ⌜ now (area .exit) ≡ summed count (now (area .entry)) ⌝ }
 {
     for k in 0..count {
-        let sum = aggregate(area, RECORD_WORDS * k + VECTOR_AT, BLOCKS);
-        area[RECORD_WORDS * k + AGGREGATE_AT] = sum;
+        let sum = aggregate(area, RECORD_WORDS * k + VECTOR_START, BLOCKS);
+        area[RECORD_WORDS * k + AGGREGATE_START] = sum;
     }
 }

@@ -21,11 +21,11 @@ each-flip p (x ∷ xs) [] = refl
 each-flip p (x ∷ xs) (y ∷ ys) = ap (λ t. p x y && t) (each-flip p xs ys)
 
 -- two lists that pass against a third: what holds at the end, and goes on through one more place of the three, holds of them
-module _ {A B C : Type 0} (p : A → C → Bool) (q : B → C → Bool) (Holds : List A → List B → List C → Type 0)
-    (end : Holds [] [] [])
+module _ {A B C : Type 0} (p : A → C → Bool) (q : B → C → Bool) (Fact : List A → List B → List C → Type 0)
+    (end : Fact [] [] [])
     (more : (x : A) (y : B) (z : C) (xs : List A) (ys : List B) (zs : List C)
-    → p x z ≡ true → q y z ≡ true → Holds xs ys zs → Holds (x ∷ xs) (y ∷ ys) (z ∷ zs)) where
-  pub each-three : (xs : List A) (ys : List B) (zs : List C) → each p xs zs ≡ true → each q ys zs ≡ true → Holds xs ys zs
+    → p x z ≡ true → q y z ≡ true → Fact xs ys zs → Fact (x ∷ xs) (y ∷ ys) (z ∷ zs)) where
+  pub each-three : (xs : List A) (ys : List B) (zs : List C) → each p xs zs ≡ true → each q ys zs ≡ true → Fact xs ys zs
   unfolding each
   each-three [] [] [] e f = end
   each-three [] (y ∷ ys) [] e f = absurd (false≢true f)

@@ -1,18 +1,18 @@
--- Laws of lists: a test over a list that was joined, mapped or split by another test, a function over a part of a list, how a list ends, and
--- its part from a start to its end.
+-- Laws of lists: a test over a list that was joined, mapped or split by another test, a function over a part of a list, how a list ends,
+-- its part from a start to its end, a test that follows from another, and a list of five elements.
 -- Assumes nothing.
-use mathlib.Core.Path.{_≡_, refl, sym, ap, ap₂, _∙_, fun-ext}
+use mathlib.Core.Path.{_≡_, refl, sym, ap, ap₂, subst, _∙_, fun-ext}
 use mathlib.Core.Logic.{_⊎_, inl, inr, ⊎-elim}
 use mathlib.Core.Bool.{Bool, true, false, _&&_, _||_, or-true, or-assoc}
 use mathlib.Core.List.{List, [], _∷_, _++_, map, flatten, append-assoc, head-eq-of-cons-eq, tail-eq-of-cons-eq, concat-ne-nil, concat-eq-append, eq-nil-or-concat}
-use Prim.Native.Nat.{ℕ, zero, suc, _-_}
+use Prim.Native.Nat.{ℕ, zero, suc, _-_, _<_}
 use native.Mathlib.Omega.{arith}
 use lib.Dec.{eqb}
-use lib.ListN.{length, take, drop, length-drop, drop-of-length-le}
-use lib.Seq.{take-all}
+use lib.ListN.{length, getD, take, drop, length-drop, drop-of-length-le}
+use lib.Seq.{take-all, drop-cons, drop-length}
 use borrow.Author.Tests.{eqb-true, eqb-false}
 use Rattle.bits.specs.Tests.{any, all}
-use Rattle.bits.proofs.TestLaws.{decided, or-falses}
+use Rattle.bits.proofs.TestLaws.{decided, and-trues, and-both, or-falses, or-trues}
 
 -- ---- one test, two numbers, one test or another
 
@@ -139,3 +139,39 @@ module _ {A : Type 0} (a : ℕ) (l : List A) where
 
   pub after-part : drop (length l - a) (drop a l) ≡ []
   after-part = drop-of-length-le (drop a l) {i = length l - a} (simp length-drop (omega arith))
+
+-- ---- a test that follows from another
+
+module _ {A : Type 0} (t u : A → Bool) (follows : (x : A) → t x ≡ true → u x ≡ true) where
+  pub any-implied : (l : List A) → any t l ≡ true → any u l ≡ true
+  unfolding any
+  any-implied [] h = h
+  any-implied (x ∷ l) h =
+      ⊎-elim (λ e. or-left (u x) (any u l) (follows x e)) (λ e. or-right (u x) (any u l) (any-implied l e)) (or-trues (t x) (any t l) h)
+
+  pub all-implied : (l : List A) → all t l ≡ true → all u l ≡ true
+  unfolding all
+  all-implied [] h = refl
+  all-implied (x ∷ l) h =
+      let s = and-trues (t x) (all t l) h in
+      and-both (u x) (all u l) (follows x (s .0)) (all-implied l (s .1))
+
+pub and-implied : (a b : Bool) → (b ≡ true → a ≡ true) → (a && b) ≡ b
+and-implied a true i = ap (λ x. x && true) (i refl)
+and-implied true false i = refl
+and-implied false false i = refl
+
+-- ---- a list of five
+
+module _ {A : Type 0} where
+  pub five-elements : (z : A) (l : List A) → length l ≡ 5 → l ≡ getD l 0 z ∷ getD l 1 z ∷ getD l 2 z ∷ getD l 3 z ∷ getD l 4 z ∷ []
+  five-elements z l h =
+      one 0 (omega arith)
+      ∙ ap (λ (m : List A). getD l 0 z ∷ m) (one 1 (omega arith)
+      ∙ ap (λ (m : List A). getD l 1 z ∷ m) (one 2 (omega arith)
+      ∙ ap (λ (m : List A). getD l 2 z ∷ m) (one 3 (omega arith)
+      ∙ ap (λ (m : List A). getD l 3 z ∷ m) (one 4 (omega arith)
+      ∙ ap (λ (m : List A). getD l 4 z ∷ m) (subst (λ (n : ℕ). drop n l ≡ []) h (drop-length l))))))
+    where
+      one : (j : ℕ) → j < 5 → drop j l ≡ getD l j z ∷ drop (suc j) l
+      one j s = drop-cons l j z (omega arith)

@@ -11,7 +11,7 @@ use Rattle.rules.specs.declared.Refusal.the-variants.{ShortArea}
 use Rattle.rules.specs.Refusal.{said}
 use Rattle.rules.specs.Table.{rulesOf, verdict, Accepted}
 use Rattle.rules.proofs.TableLaws.{length-record, accepted-sound}
-use Rattle.index.specs.Shape.{deskShape}
+use Rattle.area.specs.Shape.{deskShape}
 use Rattle.index.specs.Image.{image}
 use Rattle.index.specs.Steps.{AllSound}
 use Rattle.index.proofs.ImageLaws.{one-level-sized, length-image}

@@ -20,7 +20,7 @@ use Rattle.rules.specs.Match.{matches, ruleAt, firstMatch, falseBlocks}
 use Rattle.rules.proofs.ActionLaws.{known-one}
 use Rattle.rules.proofs.MatchLaws.{hit, First, match-told, first-match, no-match, rules-size, rules-at}
 use Rattle.overlap.specs.Judge.{answerOf}
-use Rattle.index.specs.Shape.{deskShape}
+use Rattle.area.specs.Shape.{deskShape}
 use Rattle.index.specs.Image.{image}
 use Rattle.lookup.specs.declared.Answer.{Answer}
 use Rattle.lookup.specs.declared.Looked.{Looked}

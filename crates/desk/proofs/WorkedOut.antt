@@ -15,9 +15,9 @@ use Rattle.rules.specs.Refusal.{firstRefusal}
 use Rattle.rules.specs.Table.{recordAt, rulesOf, longPrefix, strayBit, unknownAction, spareBytes, ruleTests, firstFailed, fault, ruleSaid, faulty, placeSaid, rulesSaid, verdict}
 use Rattle.rules.specs.Header.{headerValues, headerBytes}
 use Rattle.rules.specs.Match.{matches, firstMatch, matchesIn, blockOf, deceives, blocksBefore, falseBlocks}
-use Rattle.index.specs.Key.{sameKey, member, placeFrom, hit}
+use Rattle.index.specs.Key.{sameKey, hasRecord, placeFrom, hit}
 use Rattle.index.specs.Keys.{grown, grow, stepsFrom, insert, insertAll, ruleInserts, inserts, rootsFrom, keys}
-use Rattle.index.specs.Image.{child, flat, vector, recordOf, image}
+use Rattle.index.specs.Image.{child, vector, recordOf, image}
 use Rattle.index.specs.Need.{commonWith, longest, fresh, records, need}
 use Rattle.lookup.specs.Said.{actionValues, matchSaid, noMatchSaid}
 use Rattle.lookup.specs.Answer.{winnerSaid, rulesAnswer, answerSaid}
@@ -31,5 +31,5 @@ use Rattle.desk.specs.JudgeCall.{orderSaid, outputSaid, crossingSaid, ju
 use Rattle.desk.specs.Worked.{AllWorked}
 
 pub worked : AllWorked
-unfolding numberFrom number numberAt bits prefix leads stray samePath common wordOf pack aggregate any upFrom lowest valueIn decoded actionIn isUnknown ruleOf recordAt rulesOf longPrefix strayBit unknownAction spareBytes ruleTests firstFailed fault ruleSaid faulty placeSaid rulesSaid verdict sameKey member placeFrom hit grown grow stepsFrom insert insertAll ruleInserts inserts rootsFrom keys child flat vector recordOf image commonWith longest fresh records need each zipWith flatten spanOf spanShare share spanCovers covers spanLow lowestShared sameAction firstRefusal bytesOf pairs.row pairs.triangle pairs.keep pairs.firstOf pairs.listed pairs.onPair pairs.pairsOf pairs.entries orders.member orders.apartBelow orders.isOrder orders.newPlace clashes overtaken crossing headerBytes orderSaid outputSaid crossingSaid judgeSaid trailingZeros bit andAll all count has headerValues matches firstMatch matchesIn blockOf deceives blocksBefore falseBlocks actionValues matchSaid noMatchSaid winnerSaid rulesAnswer answerSaid rowAt bad walkFrom walk ends summariesAt vectorAt scan meet resolve keysFrom headerKeys lookupSteps foundSaid stepsSaid lookSaid
+unfolding numberFrom number numberAt bits prefix leads stray samePath common wordOf pack aggregate any upFrom lowest valueIn decoded actionIn isUnknown ruleOf recordAt rulesOf longPrefix strayBit unknownAction spareBytes ruleTests firstFailed fault ruleSaid faulty placeSaid rulesSaid verdict sameKey hasRecord placeFrom hit grown grow stepsFrom insert insertAll ruleInserts inserts rootsFrom keys child vector recordOf image commonWith longest fresh records need each zipWith flatten spanOf spanShare share spanCovers covers spanLow lowestShared sameAction firstRefusal bytesOf pairs.row pairs.triangle pairs.keep pairs.firstOf pairs.listed pairs.onPair pairs.pairsOf pairs.entries orders.member orders.apartBelow orders.isOrder orders.newPlace clashes overtaken crossing headerBytes orderSaid outputSaid crossingSaid judgeSaid trailingZeros bit andAll all count has headerValues matches firstMatch matchesIn blockOf deceives blocksBefore falseBlocks actionValues matchSaid noMatchSaid winnerSaid rulesAnswer answerSaid rowAt bad walkFrom walk ends summariesAt vectorAt scan meet resolve keysFrom headerKeys lookupSteps foundSaid stepsSaid lookSaid
 worked = refl

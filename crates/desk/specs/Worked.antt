@@ -5,7 +5,7 @@ use mathlib.Core.List.{List, [], _∷_, _++_, map}
 use Prim.Native.Nat.{ℕ, _*_}
 use lib.ListN.{take, drop}
 use Rattle.rules.specs.Table.{rulesOf, verdict}
-use Rattle.index.specs.Shape.{width, deskShape}
+use Rattle.area.specs.Shape.{deskShape, recordWords}
 use Rattle.index.specs.Image.{image}
 use Rattle.index.specs.Need.{need}
 use Rattle.lookup.specs.Answer.{answerSaid}
@@ -53,7 +53,7 @@ unknownThird = R0 ++ R1 ++ R2 ++ twoFields 224 3 224 3 2 100 ++ R4 ++ R5
 
 -- record n of a table's index
 abbrev recordIn : List ℕ → ℕ → List ℕ
-recordIn table n = take (width deskShape) (drop (n * width deskShape) (image deskShape (rulesOf table)))
+recordIn table n = take recordWords (drop (n * recordWords) (image deskShape (rulesOf table)))
 
 -- a header from a.0.0.1 to b.0.0.1, with ports and protocol 0
 abbrev headerOf : ℕ → ℕ → List ℕ

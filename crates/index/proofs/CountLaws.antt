@@ -4,11 +4,11 @@ use mathlib.Core.Path.{_≡_, refl, sym, ap, ap₂, _∙_}
 use mathlib.Core.Logic.{⊎-elim}
 use mathlib.Core.Bool.{Bool, true, false, _&&_, _||_, or-false}
 use mathlib.Core.List.{List, [], _∷_, _++_}
-use Prim.Native.Nat.{ℕ, zero, suc, _+_, _-_, _<_, max}
+use Prim.Native.Nat.{ℕ, zero, suc, _+_, _-_, max}
 use native.Mathlib.Nat.{add-zero, add-assoc}
 use native.Mathlib.Omega.{arith}
 use lib.Dec.{eqb, leb, leb·suc-zero}
-use lib.ListN.{length, getD, length-append}
+use lib.ListN.{length, length-append}
 use lib.Seq.{append-snoc}
 use borrow.Author.Tests.{leb-true, leb-false, le-leb}
 use Rattle.bits.specs.Path.{Path, leads, common}
@@ -17,10 +17,12 @@ use Rattle.bits.proofs.TestLaws.{decided, same-test}
 use Rattle.bits.proofs.ListLaws.{or-left, any-append}
 use Rattle.bits.proofs.SamePathLaws.{leads-cons, leads-append, leads-common}
 use Rattle.rules.specs.Rule.{Rule}
-use Rattle.index.specs.Key.{Key, at, member}
+use Rattle.index.specs.Key.{Key, at, hasRecord}
 use Rattle.index.specs.Keys.{grown, grow, stepsFrom, insert, insertAll, inserts, rootsFrom, keys}
 use Rattle.index.specs.Need.{commonWith, longest, fresh, records}
-use Rattle.index.proofs.KeyLaws.{noKey, beyond, further, sameKey-ne, longer, Stands, stands-here, grown-old, grown-new, grown-member, Below, below-beyond, through, insertAll-member, roots-member}
+use Rattle.index.proofs.KeyLaws.{beyond, further, sameKey-ne, longer}
+use Rattle.index.proofs.GrownLaws.{grown-old, grown-new, grown-hasRecord}
+use Rattle.index.proofs.ReachLaws.{Below, below-beyond, through, insertAll-hasRecord, roots-hasRecord}
 
 -- ---- an earlier path goes through a leading part exactly when that is no longer than the longest common one
 
@@ -54,7 +56,7 @@ module _ (k : Key) (b : Bool) (r : Path) (part : leads (b ∷ r) (k .path) ≡ t
 
 -- of the steps from k on along p the first d have records, and no others
 abbrev Along : Key → Path → ℕ → List Key → Type 0
-Along k p d ks = (b : Bool) (r : Path) → leads (b ∷ r) p ≡ true → member (beyond k (b ∷ r)) ks ≡ leb (suc (length r)) d
+Along k p d ks = (b : Bool) (r : Path) → leads (b ∷ r) p ≡ true → hasRecord (beyond k (b ∷ r)) ks ≡ leb (suc (length r)) d
 
 leb-less : (n d : ℕ) → leb (suc (suc n)) d ≡ leb (suc n) (d - 1)
 leb-less n d =
@@ -66,13 +68,13 @@ module _ (k : Key) (b : Bool) (p : Path) (d : ℕ) (ks : List Key) (along : Alon
   -- the first step's record is none of a later step
   along-later : Along (further k b) p (d - 1) (grown ks (further k b))
   along-later c r h =
-      grown-member (beyond (further k b) (c ∷ r)) ks (further k b)
+      grown-hasRecord (beyond (further k b) (c ∷ r)) ks (further k b)
       ∙ rw (sameKey-ne (beyond (further k b) (c ∷ r)) (further k b) (longer (further k b) c r), append-snoc (k .path) b (c ∷ r))
-      (or-false (member (beyond k (b ∷ c ∷ r)) ks) ∙ along b (c ∷ r) (leads-cons b (c ∷ r) p ∙ h) ∙ leb-less (length r) d)
+      (or-false (hasRecord (beyond k (b ∷ c ∷ r)) ks) ∙ along b (c ∷ r) (leads-cons b (c ∷ r) p ∙ h) ∙ leb-less (length r) d)
 
   first-length : length (grown ks (further k b)) + (length p - (d - 1)) ≡ length ks + (suc (length p) - d)
   first-length =
-      let first : member (further k b) ks ≡ leb 1 d = along b [] (leads-append (b ∷ []) p) in
+      let first : hasRecord (further k b) ks ≡ leb 1 d = along b [] (leads-append (b ∷ []) p) in
       ⊎-elim
       (λ e. rw (grown-old ks (further k b) (first ∙ e)) (omega (arith, leb-true 1 d e)))
       (λ e. rw (grown-new ks (further k b) (first ∙ e)) (omega (arith, leb-false 1 d e, length-append ks (further k b ∷ []))))
@@ -90,15 +92,15 @@ grow-length k (b ∷ p) d ks along =
 
 -- below the roots, the list has a record exactly where one of the paths put in goes through
 abbrev pub Made : List Key → List Key → Type 0
-Made ks earlier = (k : Key) → Below k → member k ks ≡ any (through k) earlier
+Made ks earlier = (k : Key) → Below k → hasRecord k ks ≡ any (through k) earlier
 
 pub roots-made : (n : ℕ) → Made (rootsFrom 0 n) []
 unfolding any
-roots-made n k below = roots-member k below 0 n
+roots-made n k below = roots-hasRecord k below 0 n
 
 pub insertAll-made : (ks earlier new : List Key) → Made ks earlier → Made (insertAll ks new) (earlier ++ new)
 insertAll-made ks earlier new made k below =
-    insertAll-member k below ks new ∙ ap (λ t. t || any (through k) new) (made k below) ∙ sym (any-append (through k) earlier new)
+    insertAll-hasRecord k below ks new ∙ ap (λ t. t || any (through k) new) (made k below) ∙ sym (any-append (through k) earlier new)
 
 pub insert-made : (ks earlier : List Key) (k : Key) → Made ks earlier → Made (insert ks k) (earlier ++ (k ∷ []))
 unfolding insertAll
@@ -128,6 +130,3 @@ pub records-law : (n : ℕ) (rules : List Rule) → length (keys n rules) ≡ re
 unfolding keys records
 records-law n rules =
     insertAll-length (rootsFrom 0 n) [] (inserts n rules) (roots-made n) ∙ ap (λ (x : ℕ). x + fresh [] (inserts n rules)) (length-roots 0 n)
-
-pub records-stand : (n : ℕ) (rules : List Rule) (i : ℕ) → i < records n rules → Stands (keys n rules) i (getD (keys n rules) i noKey)
-records-stand n rules i h = stands-here (keys n rules) i (rw records-law h)

@@ -1,75 +1,26 @@
 -- The image word by word: records of one length stand one after the other, so that a word's place is its record's number times that
 -- length and its place in the record.
 -- Assumes nothing.
-use mathlib.Core.Path.{_≡_, refl, sym, ap, _∙_}
+use mathlib.Core.Path.{_≡_, refl, ap, _∙_}
 use mathlib.Core.Bool.{Bool, true, false}
-use mathlib.Core.List.{List, [], _∷_, _++_, map, append-assoc}
+use mathlib.Core.List.{List, [], _++_, map, flatten}
 use Prim.Native.Nat.{ℕ, suc, _+_, _*_, _<_}
-use native.Mathlib.Nat.{zero-mul, suc-mul}
 use native.Mathlib.Omega.{arith}
-use lib.ListN.{length, getD, take, drop, length-append, length-map, length-take}
-use lib.Seq.{split-at, length-take-le, getD-take, getD-drop, take-at, drop-at}
+use lib.ListN.{length, getD, take, drop, length-append, length-map}
+use lib.Seq.{take-at, drop-at}
 use Rattle.bits.specs.Word.{digit, pack}
 use Rattle.bits.proofs.EachLaws.{getD-map}
 use Rattle.bits.proofs.PackLaws.{length-aggregate}
+use Rattle.bits.proofs.RowLaws.{Rows, length-rows, row-at, in-row}
 use Rattle.rules.specs.Rule.{Rule}
+use Rattle.area.specs.Shape.{Shape, width, oneLevel, deskShape}
 use Rattle.index.specs.Key.{Key, hit}
 use Rattle.index.specs.Keys.{keys}
-use Rattle.index.specs.Shape.{Shape, width, oneLevel}
-use Rattle.index.specs.Image.{child, flat, vector, recordOf, image}
+use Rattle.index.specs.Image.{child, vector, recordOf, image}
 use Rattle.index.specs.Need.{need}
 use Rattle.index.proofs.KeyLaws.{noKey, Stands}
 use Rattle.index.proofs.CountLaws.{records-law}
 use Rattle.index.proofs.VectorLaws.{length-vector}
-
--- ---- rows of one length, one after the other
-
-pub flat-append : (l m : List (List ℕ)) → flat (l ++ m) ≡ flat l ++ flat m
-unfolding flat
-flat-append [] m = refl
-flat-append (r ∷ l) m = rw (flat-append l m) (sym (append-assoc r (flat l) (flat m)))
-
-flat-around : (l : List (List ℕ)) (r : List ℕ) (m : List (List ℕ)) (rest : List ℕ) → flat (l ++ r ∷ m) ++ rest ≡ flat l ++ (r ++ (flat m ++ rest))
-unfolding flat
-flat-around l r m rest = simp (flat-append, append-assoc)
-
--- each row has R words
-abbrev pub Rows : ℕ → List (List ℕ) → Type 0
-Rows R rs = (i : ℕ) → i < length rs → length (getD rs i []) ≡ R
-
-pub length-flat : (R : ℕ) (rs : List (List ℕ)) → Rows R rs → length (flat rs) ≡ length rs * R
-unfolding flat
-length-flat R [] wide = sym (zero-mul R)
-length-flat R (r ∷ rs) wide =
-    let rest = length-flat R rs (λ i h. wide (suc i) (omega arith)) in
-    omega (arith, length-append r (flat rs), wide 0 (omega arith), suc-mul (length rs) R)
-
--- a word of row n of an area
-pub word-of-row : (R : ℕ) (area : List ℕ) (n : ℕ) (r : List ℕ) → take R (drop (n * R) area) ≡ r
-    → (j : ℕ) → j < R → getD area (n * R + j) 0 ≡ getD r j 0
-word-of-row R area n r e j h =
-    sym (getD-drop (n * R) area j 0) ∙ sym (getD-take R (drop (n * R) area) j 0 h) ∙ ap (λ (l : List ℕ). getD l j 0) e
-
-module _ (R : ℕ) (rs : List (List ℕ)) (wide : Rows R rs) (n : ℕ) (inside : n < length rs) where
-  -- the words before row n
-  length-before : length (flat (take n rs)) ≡ n * R
-  length-before =
-      let part : Rows R (take n rs) =
-      λ i h. let small : i < n = omega (arith, length-take n rs) in rw (getD-take n rs i [] small) (wide i (omega arith))
-      in
-      length-flat R (take n rs) part ∙ rw (length-take-le n rs (omega arith))
-
-  -- row n, what stands before it and what comes behind
-  flat-split : (rest : List ℕ) → flat rs ++ rest ≡ flat (take n rs) ++ (getD rs n [] ++ (flat (drop (suc n) rs) ++ rest))
-  flat-split rest =
-      ap (λ (l : List (List ℕ)). flat l ++ rest) (split-at rs n [] inside) ∙ flat-around (take n rs) (getD rs n []) (drop (suc n) rs) rest
-
-  pub flat-row : (rest : List ℕ) → take R (drop (n * R) (flat rs ++ rest)) ≡ getD rs n []
-  flat-row rest =
-      let behind = flat (drop (suc n) rs) ++ rest in
-      ap (λ (l : List ℕ). take R (drop (n * R) l)) (flat-split rest)
-      ∙ ap (take R) (drop-at (flat (take n rs)) (getD rs n [] ++ behind) (n * R) length-before)
-      ∙ take-at (getD rs n []) behind R (wide n inside)
 
 -- ---- one record
 
@@ -85,6 +36,9 @@ Sized S = (h : List Bool) → length (S .summary (pack (S .size) (S .blocks) h))
 
 pub one-level-sized : (fields size blocks : ℕ) → Sized (oneLevel fields size blocks)
 one-level-sized fields size blocks h = length-aggregate size 1 (pack size blocks h)
+
+pub desk-sized : Sized deskShape
+desk-sized = one-level-sized (deskShape .fields) (deskShape .size) (deskShape .blocks)
 
 module _ (S : Shape) (sized : Sized S) (rules : List Rule) where
   pub length-summary : (k : Key) → length (S .summary (vector S rules k)) ≡ S .summaries
@@ -117,13 +71,13 @@ module _ (S : Shape) (sized : Sized S) (rules : List Rule) where
   unfolding image need
   length-image =
       let ks = keys (S .fields) rules in
-      length-flat (width S) (map (recordOf S rules ks) ks) (records-wide ks)
+      length-rows (width S) (map (recordOf S rules ks) ks) (records-wide ks)
       ∙ ap (λ (n : ℕ). n * width S) (length-map ks (recordOf S rules ks) ∙ records-law (S .fields) rules)
 
   record-row : (ks : List Key) (n : ℕ) (k : Key) → Stands ks n k → (rest : List ℕ)
-      → take (width S) (drop (n * width S) (flat (map (recordOf S rules ks) ks) ++ rest)) ≡ recordOf S rules ks k
+      → take (width S) (drop (n * width S) (flatten (map (recordOf S rules ks) ks) ++ rest)) ≡ recordOf S rules ks k
   record-row ks n k stands rest =
-      flat-row (width S) (map (recordOf S rules ks) ks) (records-wide ks) n (rw length-map (stands .inside)) rest
+      row-at (width S) (map (recordOf S rules ks) ks) (records-wide ks) n (rw length-map (stands .inside)) rest
       ∙ rw (getD-map (recordOf S rules ks) ks n [] noKey (stands .inside), stands .there)
 
   -- the record of a key, whatever follows the image
@@ -135,4 +89,4 @@ module _ (S : Shape) (sized : Sized S) (rules : List Rule) where
     -- and its words
     pub image-word : (j : ℕ) → j < width S
         → getD (image S rules ++ rest) (n * width S + j) 0 ≡ getD (recordOf S rules (keys (S .fields) rules) k) j 0
-    image-word = word-of-row (width S) (image S rules ++ rest) n (recordOf S rules (keys (S .fields) rules) k) image-record
+    image-word j = in-row (width S) (image S rules ++ rest) n (recordOf S rules (keys (S .fields) rules) k) image-record j 0

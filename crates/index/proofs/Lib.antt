@@ -1,11 +1,19 @@
 -- The laws of the index, and the theorem that joins the build's steps to the image.
 pub mod KeyLaws
+pub mod GrownLaws
+pub mod ReachLaws
 pub mod CountLaws
 pub mod OrderLaws
 pub mod VectorLaws
 pub mod ImageLaws
 pub mod NeedLaws
 pub mod StepLaws
-pub mod Growth
 pub mod MarkLaws
+pub mod Recorded
+pub mod GrowStep
+pub mod GrowPath
+pub mod GrowBit
+pub mod Growth
+pub mod ForestLaws
+pub mod WholeLaws
 pub mod BuildLaws

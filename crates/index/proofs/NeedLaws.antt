@@ -14,19 +14,20 @@ use lib.Seq.{take-suc, take-all}
 use borrow.Author.Tests.{eq-eqb, ne-eqb}
 use Rattle.bits.specs.Path.{Path, common}
 use Rattle.bits.specs.Tests.{upFrom}
-use Rattle.bits.proofs.PathLaws.{length-prefix}
 use Rattle.bits.proofs.TestLaws.{equal}
 use Rattle.bits.proofs.EachLaws.{up-snoc}
+use Rattle.bits.proofs.PathLaws.{length-prefix}
 use Rattle.rules.specs.Field.{fieldAt, lengthIn}
 use Rattle.rules.specs.Rule.{Rule, ruleOf}
-use Rattle.rules.specs.Match.{ruleAt, noRule}
 use Rattle.rules.specs.Table.{ruleCount, recordAt, rulesOf, SoundRule}
-use Rattle.rules.proofs.MatchLaws.{rules-size, rules-at}
+use Rattle.rules.specs.Match.{noRule, ruleAt}
 use Rattle.rules.proofs.RuleLaws.{length-fits}
+use Rattle.rules.proofs.MatchLaws.{rules-size, rules-at}
 use Rattle.index.specs.Key.{Key, at}
 use Rattle.index.specs.Keys.{ruleInserts, inserts}
 use Rattle.index.specs.Need.{commonWith, longest, fresh, records}
 use Rattle.index.specs.Steps.{pathOf}
+use Rattle.index.proofs.GrownLaws.{inserts-append}
 
 -- ---- one path more
 
@@ -92,8 +93,7 @@ rule-paths bytes = refl
 
 pub inserts-snoc : (rules : List Rule) (r : Rule) → inserts 5 (rules ++ (r ∷ [])) ≡ inserts 5 rules ++ ruleInserts 0 5 r
 unfolding inserts
-inserts-snoc [] r = append-nil (ruleInserts 0 5 r)
-inserts-snoc (s ∷ rules) r = ap (λ (l : List Key). ruleInserts 0 5 s ++ l) (inserts-snoc rules r) ∙ sym (append-assoc (ruleInserts 0 5 s) (inserts 5 rules) (ruleInserts 0 5 r))
+inserts-snoc rules r = inserts-append 5 rules (r ∷ []) ∙ ap (λ (l : List Key). inserts 5 rules ++ l) (append-nil (ruleInserts 0 5 r))
 
 module _ (table : List ℕ) (i : ℕ) (inside : i < ruleCount table) where
   abbrev before : List Key

@@ -1,22 +1,22 @@
 -- The order of an index's keys: no key stands twice, a key's parent stands before it, and what is put in later comes behind.
 -- Assumes nothing.
-use mathlib.Core.Path.{_≡_, refl, sym, ap, _∙_, subst}
+use mathlib.Core.Path.{_≡_, sym, ap, subst, _∙_}
 use mathlib.Core.Logic.{_⊎_, inl, inr, ⊎-elim}
 use mathlib.Core.Bool.{Bool, true, false, false≢true}
-use mathlib.Core.List.{List, [], _∷_, _++_, map, append-nil, append-assoc, concat-ne-nil}
+use mathlib.Core.List.{List, [], _∷_, _++_, map, concat-ne-nil}
 use Prim.Native.Nat.{ℕ, zero, suc, _+_, _≤_, _<_}
 use native.Mathlib.Nat.{add-zero}
 use native.Mathlib.Omega.{arith}
-use lib.ListN.{length, length-append}
+use lib.ListN.{length}
 use Rattle.bits.specs.Path.{Path}
 use Rattle.bits.specs.Tests.{any}
 use Rattle.bits.proofs.TestLaws.{decided, clash, or-falses}
 use Rattle.bits.proofs.ListLaws.{or-right}
 use Rattle.rules.specs.Rule.{Rule}
-use Rattle.index.specs.Key.{Key, at, sameKey, member, placeFrom, pathsIn}
+use Rattle.index.specs.Key.{Key, at, sameKey, hasRecord, placeFrom, pathsIn}
 use Rattle.index.specs.Keys.{grown, grow, stepsFrom, insert, insertAll, ruleInserts, inserts, rootsFrom, keys}
-use Rattle.index.specs.Image.{child}
-use Rattle.index.proofs.KeyLaws.{further, further-same, sameKey-refl, Stands, stands-append, stands-snoc, stands-member, place-in, place-out, place-here, place-later, grown-old, grown-new, grown-keeps, grow-keeps, insertAll-keeps, grow-at, grown-member, roots-at, Rooted, roots-rooted}
+use Rattle.index.proofs.KeyLaws.{further, sameKey-refl, further-same, Stands, stands-append, stands-snoc, stands-hasRecord, place-here, place-later, place-in, place-out}
+use Rattle.index.proofs.GrownLaws.{grown-old, grown-new, grown-keeps, insertAll-keeps, grow-at, grown-hasRecord, roots-at, Rooted, roots-rooted}
 use Rattle.index.proofs.CountLaws.{length-roots}
 
 -- ---- each key once
@@ -25,11 +25,11 @@ use Rattle.index.proofs.CountLaws.{length-roots}
 abbrev pub Once : List Key → Type 0
 Once ks = (i j : ℕ) (k : Key) → Stands ks i k → Stands ks j k → i ≡ j
 
-once-snoc : (ks : List Key) (k : Key) → member k ks ≡ false → Once ks → Once (ks ++ (k ∷ []))
+once-snoc : (ks : List Key) (k : Key) → hasRecord k ks ≡ false → Once ks → Once (ks ++ (k ∷ []))
 once-snoc ks k new once i j l s t = both (stands-snoc ks k i l s) (stands-snoc ks k j l t)
   where
     old : (m : ℕ) → Stands ks m l → l ≡ k → ⊥
-    old m u e = clash (rw e at (stands-member ks m l u)) new
+    old m u e = clash (rw e at (stands-hasRecord ks m l u)) new
 
     both : Stands ks i l ⊎ ((i ≡ length ks) × (l ≡ k)) → Stands ks j l ⊎ ((j ≡ length ks) × (l ≡ k)) → i ≡ j
     both (inl u) (inl v) = once i j l u v
@@ -39,9 +39,6 @@ once-snoc ks k new once i j l s t = both (stands-snoc ks k i l s) (stands-snoc k
 
 pub once-grown : (ks : List Key) (k : Key) → Once ks → Once (grown ks k)
 once-grown = grown-keeps Once once-snoc
-
-pub once-grow : (ks new : List Key) → Once ks → Once (grow ks new)
-once-grow = grow-keeps Once once-snoc
 
 pub once-insertAll : (ks new : List Key) → Once ks → Once (insertAll ks new)
 once-insertAll = insertAll-keeps Once once-snoc
@@ -58,19 +55,19 @@ keys-once n rules =
 
 -- the place of the key of record i is i
 pub place-of : (ks : List Key) → Once ks → (i : ℕ) (k : Key) → Stands ks i k → placeFrom 0 k ks ≡ i
-place-of ks once i k s = once (placeFrom 0 k ks) i k (place-in k ks (stands-member ks i k s)) s
+place-of ks once i k s = once (placeFrom 0 k ks) i k (place-in k ks (stands-hasRecord ks i k s)) s
 
 -- ---- a record's parent stands before it
 
 abbrev pub Parented : List Key → Type 0
 Parented ks = (i : ℕ) (k : Key) (b : Bool) → Stands ks i (further k b) → (j : ℕ) × (j < i) × Stands ks j k
 
-pub parented-grown : (ks : List Key) (k : Key) (b : Bool) → member k ks ≡ true → Parented ks → Parented (grown ks (further k b))
+pub parented-grown : (ks : List Key) (k : Key) (b : Bool) → hasRecord k ks ≡ true → Parented ks → Parented (grown ks (further k b))
 parented-grown ks k b parent P =
     ⊎-elim
     (λ e. rw (grown-old ks (further k b) e) P)
     (λ e. rw (grown-new ks (further k b) e) (λ i l c s. last i l c (stands-snoc ks (further k b) i (further l c) s)))
-    (decided (member (further k b) ks))
+    (decided (hasRecord (further k b) ks))
   where
     last : (i : ℕ) (l : Key) (c : Bool) → Stands ks i (further l c) ⊎ ((i ≡ length ks) × (further l c ≡ further k b))
         → (j : ℕ) × (j < i) × Stands (ks ++ (further k b ∷ [])) j l
@@ -79,12 +76,12 @@ parented-grown ks k b parent P =
         let p = place-in k ks parent in
         (placeFrom 0 k ks, omega arith, rw (further-same l k c b (s .1) .0) (stands-append ks (further k b ∷ []) (placeFrom 0 k ks) k p))
 
-pub parented-grow : (k : Key) (p : Path) (ks : List Key) → member k ks ≡ true → Parented ks → Parented (grow ks (stepsFrom (k .field) (k .path) p))
+pub parented-grow : (k : Key) (p : Path) (ks : List Key) → hasRecord k ks ≡ true → Parented ks → Parented (grow ks (stepsFrom (k .field) (k .path) p))
 unfolding grow stepsFrom
 parented-grow k [] ks parent P = P
 parented-grow k (b ∷ p) ks parent P =
     let l = further k b in
-    parented-grow l p (grown ks l) (grown-member l ks l ∙ or-right (member l ks) (sameKey l l) (sameKey-refl l)) (parented-grown ks k b parent P)
+    parented-grow l p (grown ks l) (grown-hasRecord l ks l ∙ or-right (hasRecord l ks) (sameKey l l) (sameKey-refl l)) (parented-grown ks k b parent P)
 
 -- the keys are of n fields
 abbrev pub Within : ℕ → List Key → Type 0
@@ -99,7 +96,7 @@ pub parented-insert : (n : ℕ) (ks : List Key) (k : Key) → k .field < n → R
 unfolding insert
 parented-insert n ks k h rooted =
     let root = at (k .field) [] in
-    parented-grow root (k .path) ks (stands-member ks (k .field) root (rooted (k .field) h))
+    parented-grow root (k .path) ks (stands-hasRecord ks (k .field) root (rooted (k .field) h))
 
 pub parented-insertAll : (n : ℕ) (ks new : List Key) → Within n new → Rooted n ks → Parented ks → Parented (insertAll ks new)
 unfolding insertAll
@@ -138,7 +135,7 @@ unfolding grow
 within-grow n ks [] w v = w
 within-grow n ks (k ∷ new) w v =
     within-grow n (grown ks k) new
-    (⊎-elim (λ e. rw (grown-old ks k e) w) (λ e. rw (grown-new ks k e) (within-append n ks (k ∷ []) w (v .0, tt))) (decided (member k ks)))
+    (⊎-elim (λ e. rw (grown-old ks k e) w) (λ e. rw (grown-new ks k e) (within-append n ks (k ∷ []) w (v .0, tt))) (decided (hasRecord k ks)))
     (v .1)
 
 within-insertAll : (n : ℕ) (ks new : List Key) → Within n ks → Within n new → Within n (insertAll ks new)
@@ -170,20 +167,12 @@ pub keys-parented : (n : ℕ) (rules : List Rule) → Parented (keys n rules)
 unfolding keys
 keys-parented n rules = parented-insertAll n (rootsFrom 0 n) (inserts n rules) (within-inserts n rules) (roots-rooted n) (roots-parented n)
 
--- a child has a higher number than its record
-pub child-later : (ks : List Key) → Once ks → Parented ks → (i : ℕ) (k : Key) (b : Bool) → Stands ks i k
-    → member (further k b) ks ≡ true → i < child ks k b
-unfolding child
-child-later ks once P i k b s m =
-    let p = P (placeFrom 0 (further k b) ks) k b (place-in (further k b) ks m) in
-    omega (arith, p .1, once i (p .0) k s (p .2))
-
 -- ---- one key more at the end
 
 module _ (k : Key) where
-  -- a member keeps its place, whatever comes behind
-  pub place-old : (n : ℕ) (ks more : List Key) → member k ks ≡ true → placeFrom n k (ks ++ more) ≡ placeFrom n k ks
-  unfolding member any
+  -- a key of the list keeps its place, whatever comes behind
+  pub place-old : (n : ℕ) (ks more : List Key) → hasRecord k ks ≡ true → placeFrom n k (ks ++ more) ≡ placeFrom n k ks
+  unfolding hasRecord any
   place-old n [] more e = absurd (false≢true e)
   place-old n (l ∷ ks) more e =
       ⊎-elim
@@ -192,15 +181,15 @@ module _ (k : Key) where
       (decided (sameKey k l))
 
   -- any other has the place that it has behind
-  pub place-new : (n : ℕ) (ks more : List Key) → member k ks ≡ false → placeFrom n k (ks ++ more) ≡ placeFrom (n + length ks) k more
-  unfolding member any
+  pub place-new : (n : ℕ) (ks more : List Key) → hasRecord k ks ≡ false → placeFrom n k (ks ++ more) ≡ placeFrom (n + length ks) k more
+  unfolding hasRecord any
   place-new n [] more e = rw add-zero
   place-new n (l ∷ ks) more e =
-      let s = or-falses (sameKey k l) (member k ks) e in
+      let s = or-falses (sameKey k l) (hasRecord k ks) e in
       let sum : suc n + length ks ≡ n + suc (length ks) = omega arith in
       place-later n k l (ks ++ more) (s .0) ∙ place-new (suc n) ks more (s .1) ∙ ap (λ (m : ℕ). placeFrom m k more) sum
 
-  pub place-snoc : (n : ℕ) (ks : List Key) → member k ks ≡ false → placeFrom n k (ks ++ (k ∷ [])) ≡ n + length ks
+  pub place-snoc : (n : ℕ) (ks : List Key) → hasRecord k ks ≡ false → placeFrom n k (ks ++ (k ∷ [])) ≡ n + length ks
   place-snoc n ks e = place-new n ks (k ∷ []) e ∙ place-here (n + length ks) k k [] (sameKey-refl k)
 
   pub place-other : (n : ℕ) (ks : List Key) (l : Key) → sameKey k l ≡ false → placeFrom n k (ks ++ (l ∷ [])) ≡ placeFrom n k ks
@@ -208,41 +197,4 @@ module _ (k : Key) where
   place-other n ks l other =
       ⊎-elim (place-old n ks (l ∷ []))
       (λ e. place-new n ks (l ∷ []) e ∙ place-later (n + length ks) k l [] other ∙ sym (place-out k n ks e))
-      (decided (member k ks))
-
--- ---- more rules at the end
-
-pub insertAll-append : (ks l m : List Key) → insertAll ks (l ++ m) ≡ insertAll (insertAll ks l) m
-unfolding insertAll
-insertAll-append ks [] m = refl
-insertAll-append ks (k ∷ l) m = insertAll-append (insert ks k) l m
-
-pub inserts-append : (n : ℕ) (rules more : List Rule) → inserts n (rules ++ more) ≡ inserts n rules ++ inserts n more
-unfolding inserts
-inserts-append n [] more = refl
-inserts-append n (r ∷ rules) more =
-    rw (inserts-append n rules more) (sym (append-assoc (ruleInserts 0 n r) (inserts n rules) (inserts n more)))
-
-pub keys-append : (n : ℕ) (rules more : List Rule) → keys n (rules ++ more) ≡ insertAll (keys n rules) (inserts n more)
-unfolding keys
-keys-append n rules more = rw (inserts-append n rules more) (insertAll-append (rootsFrom 0 n) (inserts n rules) (inserts n more))
-
--- one list is another with more behind
-abbrev pub Extends : List Key → List Key → Type 0
-Extends ks longer = (extra : List Key) × (longer ≡ ks ++ extra)
-
-pub extends-length : (ks longer : List Key) → Extends ks longer → length ks ≤ length longer
-extends-length ks longer x = rw (x .1) (omega (arith, length-append ks (x .0)))
-
-extends-snoc : (start ks : List Key) (k : Key) → Extends start ks → Extends start (ks ++ (k ∷ []))
-extends-snoc start ks k x = (x .0 ++ (k ∷ []), rw (x .1) (append-assoc start (x .0) (k ∷ [])))
-
-pub grow-extends : (ks new : List Key) → Extends ks (grow ks new)
-grow-extends ks new = grow-keeps (Extends ks) (λ l k e. extends-snoc ks l k) ks new ([], sym (append-nil ks))
-
-pub insertAll-extends : (ks new : List Key) → Extends ks (insertAll ks new)
-insertAll-extends ks new = insertAll-keeps (Extends ks) (λ l k e. extends-snoc ks l k) ks new ([], sym (append-nil ks))
-
--- the records that were there stay as they stood (so that the last rules' records can be taken off again)
-pub keys-extend : (n : ℕ) (rules more : List Rule) → Extends (keys n rules) (keys n (rules ++ more))
-keys-extend n rules more = rw (keys-append n rules more) (insertAll-extends (keys n rules) (inserts n more))
+      (decided (hasRecord k ks))

@@ -6,12 +6,13 @@ use Prim.Native.Nat.{ℕ, _+_, _*_, _≤_, _<_}
 use native.Mathlib.Nat.{le-refl}
 use native.Mathlib.Omega.{arith}
 use lib.ListN.{length}
-use Rattle.area.specs.Upto.{upto}
-use Rattle.area.specs.Grow.{recordWords, zeroed, State, mk, walked, inserted, Kids, Ready, Roomy}
-use Rattle.area.proofs.ZeroLaws.{length-zeroed, zeroed-inside}
-use Rattle.area.proofs.GrowLaws.{walked-le, walked-ready, bit-kids, bit-length, Kept, Good, state, upto-good}
 use Rattle.rules.specs.Field.{fieldAt, valueIn, lengthIn}
 use Rattle.rules.specs.Table.{ruleCount, recordAt}
+use Rattle.area.specs.Shape.{recordWords}
+use Rattle.area.specs.Upto.{upto}
+use Rattle.area.specs.Grow.{zeroed, State, mk, walked, inserted, Kids, Ready, Roomy}
+use Rattle.area.proofs.ZeroLaws.{length-zeroed, zeroed-inside}
+use Rattle.area.proofs.GrowLaws.{walked-le, walked-ready, bit-kids, bit-length, Kept, Good, upto-good}
 use Rattle.index.specs.Steps.{fieldIn, ruleIn, rulesIn, cleared, allIn}
 
 -- a field's root may be stood at
@@ -63,10 +64,10 @@ cleared-ready a h = record {
   ready = record {
     roots = omega arith;
     inside = omega arith;
-    whole = omega (arith, length-zeroed 0 55 a (omega arith) h);
-    kids = λ k b hk hb. rw (zeroed-inside 0 55 (recordWords * k + b) a (omega arith) h (omega arith) (omega arith)) (omega arith);
+    whole = omega (arith, length-zeroed 0 (5 * recordWords) a (omega arith) h);
+    kids = λ k b hk hb. rw (zeroed-inside 0 (5 * recordWords) (recordWords * k + b) a (omega arith) h (omega arith) (omega arith)) (omega arith);
   };
-  long = length-zeroed 0 55 a (omega arith) h;
+  long = length-zeroed 0 (5 * recordWords) a (omega arith) h;
 }
 
 -- room for all has room for the roots
@@ -75,17 +76,9 @@ unfolding allIn rulesIn cleared
 room-roots table a m h r =
     omega (arith, upto-good (λ i. ruleIn (recordAt table i) i) (ruleCount table) (rules-good table h) .more (cleared a), r .room)
 
-pub all-start : (table a b : List ℕ) → b ≡ zeroed 0 55 a → ruleCount table ≤ 256 → Roomy (allIn table a) (length a)
+pub all-start : (table a b : List ℕ) → b ≡ zeroed 0 (5 * recordWords) a → ruleCount table ≤ 256 → Roomy (allIn table a) (length a)
     → Ready (mk b 0 5) × Roomy (rulesIn table (ruleCount table) (mk b 0 5)) (length b)
 unfolding allIn cleared
 all-start table a b e h r =
     let k = cleared-ready a (room-roots table a (length a) h r) in
     rw e (k .ready, rw (k .long) r)
-
-pub all-kept : (table a : List ℕ) → ruleCount table ≤ 256 → Roomy (allIn table a) (length a) → Kept (mk a 0 5) (allIn table a)
-unfolding allIn rulesIn
-all-kept table a h r =
-    let start = cleared-ready a (room-roots table a (length a) h r) in
-    let n = ruleCount table in
-    let end = state (λ i. ruleIn (recordAt table i) i) n (rules-good table h) (cleared a) (start .ready) (rw (start .long) r) n (le-refl n) in
-    record { ready = end .ready; long = end .long ∙ start .long }

@@ -8,15 +8,15 @@ use native.Mathlib.Omega.{arith}
 use lib.Bits.{bitOr}
 use lib.ListN.{length, getD, take, drop}
 use Rattle.bits.specs.Path.{leads, samePath}
-use Rattle.bits.specs.Tests.{any}
 use Rattle.bits.specs.Word.{pack}
+use Rattle.bits.specs.Tests.{any}
 use Rattle.bits.proofs.ListLaws.{any-ext, any-or, map-ext, take-map, drop-map}
 use Rattle.bits.proofs.SamePathLaws.{leads-root, leads-snoc}
 use Rattle.bits.proofs.WordSetLaws.{or-word}
 use Rattle.bits.proofs.PackLaws.{length-pack}
 use Rattle.rules.specs.Rule.{Rule}
+use Rattle.area.specs.Shape.{Shape}
 use Rattle.index.specs.Key.{Key, at, pathsIn, hit}
-use Rattle.index.specs.Shape.{Shape}
 use Rattle.index.specs.Image.{vector}
 use Rattle.index.proofs.KeyLaws.{further}
 

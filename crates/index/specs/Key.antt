@@ -16,11 +16,13 @@ pub record Key : Type 0 where
 abbrev pub at : ℕ → Path → Key
 at f p = record { field = f; path = p }
 
+-- the same field and the same path
 unfoldable pub sameKey : Key → Key → Bool
 sameKey k l = eqb (k .field) (l .field) && samePath (k .path) (l .path)
 
-unfoldable pub member : Key → List Key → Bool
-member k ks = any (sameKey k) ks
+-- of "each step that has no record yet gets the next one": the key has one among these
+unfoldable pub hasRecord : Key → List Key → Bool
+hasRecord k ks = any (sameKey k) ks
 
 -- a key's place in a list, counted from n; 0 where it is not there
 unfoldable pub placeFrom : ℕ → Key → List Key → ℕ

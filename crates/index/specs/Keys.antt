@@ -6,11 +6,11 @@ use mathlib.Core.List.{List, [], _∷_, _++_, map}
 use Prim.Native.Nat.{ℕ, zero, suc}
 use Rattle.bits.specs.Path.{Path}
 use Rattle.rules.specs.Rule.{Rule}
-use Rattle.index.specs.Key.{Key, at, member, pathsIn}
+use Rattle.index.specs.Key.{Key, at, hasRecord, pathsIn}
 
 -- each step that has no record yet gets the next one
 unfoldable pub grown : List Key → Key → List Key
-grown ks k = elim (member k ks) [ true ↦ ks | false ↦ ks ++ (k ∷ []) ]
+grown ks k = elim (hasRecord k ks) [ true ↦ ks | false ↦ ks ++ (k ∷ []) ]
 
 unfoldable pub grow : List Key → List Key → List Key
 grow ks [] = ks

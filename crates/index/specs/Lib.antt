@@ -2,7 +2,6 @@
 -- Read in this order.
 pub mod Key
 pub mod Keys
-pub mod Shape
 pub mod Image
 pub mod Need
 pub mod Steps

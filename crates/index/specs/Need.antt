@@ -7,9 +7,9 @@ use lib.Dec.{eqb}
 use lib.ListN.{length}
 use Rattle.bits.specs.Path.{common}
 use Rattle.rules.specs.Rule.{Rule}
+use Rattle.area.specs.Shape.{Shape, width}
 use Rattle.index.specs.Key.{Key}
 use Rattle.index.specs.Keys.{inserts}
-use Rattle.index.specs.Shape.{Shape, width}
 
 -- what a path has in common with another of the same field; nothing with one of another field
 unfoldable pub commonWith : Key → Key → ℕ

@@ -3,11 +3,12 @@
 -- Assumes nothing.
 use mathlib.Core.List.{List}
 use Prim.Native.Nat.{ℕ, _*_, _<_}
-use Rattle.area.specs.Upto.{upto}
-use Rattle.area.specs.Grow.{recordWords, zeroed, State, mk, inserted}
 use Rattle.bits.specs.Path.{Path, prefix}
 use Rattle.rules.specs.Field.{fieldAt, valueIn, lengthIn}
 use Rattle.rules.specs.Table.{ruleCount, recordAt, SoundRule}
+use Rattle.area.specs.Shape.{recordWords}
+use Rattle.area.specs.Upto.{upto}
+use Rattle.area.specs.Grow.{zeroed, State, mk, inserted}
 
 -- a table whose rules are all sound
 pub record AllSound (table : List ℕ) : Type 0 where

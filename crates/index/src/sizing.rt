@@ -9,7 +9,7 @@ ghost use Rattle.rules.specs.Table.{recordAt, rulesOf, ruleCount, SoundRule};
 ghost use Rattle.index.specs.Key.{at};
 ghost use Rattle.index.specs.Keys.{inserts, ruleInserts};
 ghost use Rattle.index.specs.Need.{longest, fresh, records, need};
-ghost use Rattle.index.specs.Shape.{deskShape};
+ghost use Rattle.area.specs.Shape.{deskShape};
 ghost use Rattle.index.specs.Steps.{pathOf, AllSound};
 
 fn greater(a: usize, b: usize) -> usize

@@ -6,7 +6,7 @@ ghost use Prim.Native.Nat.{_+_, _*_, _≤_, _<_};
 ghost use lib.ListN.{length, drop};
 ghost use Rattle.area.specs.Grow.{mk, Ready, Roomy};
 ghost use Rattle.rules.specs.Table.{rulesOf, ruleCount, SoundRule};
-ghost use Rattle.index.specs.Shape.{deskShape};
+ghost use Rattle.area.specs.Shape.{deskShape};
 ghost use Rattle.index.specs.Image.{image};
 ghost use Rattle.index.specs.Need.{records, need};
 ghost use Rattle.index.specs.Steps.{AllSound, fieldIn, ruleIn, rulesIn, allIn};

@@ -15,7 +15,7 @@ use Rattle.rules.specs.declared.Decoded.the-variants.{Known, Unknown}
 use Rattle.rules.specs.Action.{actionIn}
 use Rattle.rules.specs.Table.{recordSize, mostRules, ruleCount, recordAt}
 use Rattle.rules.specs.Header.{headerSize, headerValues}
-use Rattle.index.specs.Shape.{deskShape}
+use Rattle.area.specs.Shape.{deskShape}
 use Rattle.lookup.specs.declared.Looked.{Looked}
 use Rattle.lookup.specs.declared.Looked.the-variants.{Found}
 use Rattle.lookup.specs.declared.Outcome.the-variants.{Match}

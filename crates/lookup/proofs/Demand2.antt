@@ -1,7 +1,7 @@
 -- Lookup over an area that holds the index of an accepted table: what the steps say is what table and header fix, it is a done answer, and it
 -- counts at most 8 false blocks.
 -- Assumes nothing.
-use mathlib.Core.Path.{_≡_, refl, sym, ap, ap₂, fun-ext, _∙_}
+use mathlib.Core.Path.{_≡_, refl, sym, ap, ap₂, _∙_, fun-ext}
 use mathlib.Core.Bool.{Bool, false, not, _&&_, true≢false}
 use mathlib.Core.List.{List, [], _∷_, map}
 use mathlib.Core.Option.{Option, none, some}
@@ -12,7 +12,7 @@ use lib.ListN.{length, take, length-map}
 use borrow.Author.Tests.{eq-eqb, le-ltb, lt-ltb}
 use Rattle.bits.specs.Number.{Bytes}
 use Rattle.bits.specs.Tests.{any, all, upFrom, lowest, count}
-use Rattle.bits.proofs.TestLaws.{Lowest, Told, lowest-told, lowest-agree, count-le}
+use Rattle.bits.proofs.TestLaws.{Lowest, Told, lowest-told, count-le, lowest-agree}
 use Rattle.bits.proofs.ListLaws.{all-map}
 use Rattle.bits.proofs.EachLaws.{getD-map, all-agree}
 use Rattle.rules.specs.declared.Action.{Action}
@@ -23,23 +23,23 @@ use Rattle.rules.specs.Rule.{Rule, ruleOf}
 use Rattle.rules.specs.Table.{recordSize, mostRules, ruleCount, recordAt, rulesOf, unknownAction, Accepted}
 use Rattle.rules.specs.Header.{headerSize, headerValues}
 use Rattle.rules.specs.Match.{matches, noRule, ruleAt, firstMatch, matchesIn, blockOf, deceives, blocksBefore, falseBlocks}
-use Rattle.rules.proofs.TableLaws.{accepted-sound, faultless}
+use Rattle.rules.proofs.TableLaws.{faultless, accepted-sound}
 use Rattle.rules.proofs.MatchLaws.{rules-size, rules-at}
+use Rattle.area.specs.Shape.{blocks, deskShape}
 use Rattle.index.specs.Key.{Key, hit}
-use Rattle.index.specs.Shape.{deskShape}
 use Rattle.index.specs.Image.{image}
 use Rattle.index.specs.Need.{need}
-use Rattle.index.proofs.KeyLaws.{keys-root}
+use Rattle.index.proofs.GrownLaws.{keys-root}
 use Rattle.lookup.specs.Said.{actionValues, matchSaid, noMatchSaid}
 use Rattle.lookup.specs.Answer.{winnerSaid, rulesAnswer, answerSaid}
 use Rattle.lookup.specs.Scan.{found}
 use Rattle.lookup.specs.Look.{headerKeys, widths, lookupSteps, foundSaid, stepsSaid, leastWords, lookSaid}
 use Rattle.lookup.proofs.ScanLaws.{chunk, passes, winner}
 use Rattle.lookup.proofs.ShapeLaws.{desk-lawful}
-use Rattle.lookup.proofs.WalkLaws.{image-holds}
+use Rattle.lookup.proofs.WalkLaws.{image-indexed}
 use Rattle.lookup.proofs.HeldLaws.{hitAll, misleads, keysFound, chunk-any, steps-image}
-use Rattle.lookup.proofs.LookLaws.{said-none, said-match, look-steps}
 use Rattle.lookup.proofs.MatchLaws.{keyIn, keys-in, keys-within, hits-in, hits-match}
+use Rattle.lookup.proofs.LookLaws.{said-none, said-match, look-steps}
 
 -- ---- the lowest of the rules
 
@@ -107,15 +107,15 @@ module _ (table : List ℕ) (b : Bytes table) (sound : Accepted table) (header :
       none-of = one (hitAll ks) (matches values) (hits-match table b sound header c right)
 
   -- what is found of the keys is what the rules fix
-  found-same : keysFound deskShape rules ks ≡ found (firstMatch rules values) (falseBlocks 32 8 rules values)
+  found-same : keysFound deskShape rules ks ≡ found (firstMatch rules values) (falseBlocks 32 blocks rules values)
   unfolding falseBlocks
   found-same =
-      ap (λ w. found w (count (λ n. misleads ks (blockOf 32 rules n)) (blocksBefore 32 8 w)))
+      ap (λ w. found w (count (λ n. misleads ks (blockOf 32 rules n)) (blocksBefore 32 blocks w)))
       (ap winner (hits-match table b sound header c right) ∙ winner-first rules values)
-      ∙ ap (λ (t : ℕ → Bool). found (firstMatch rules values) (count t (blocksBefore 32 8 (firstMatch rules values)))) (fun-ext block-same)
+      ∙ ap (λ (t : ℕ → Bool). found (firstMatch rules values) (count t (blocksBefore 32 blocks (firstMatch rules values)))) (fun-ext block-same)
 
   module _ (area : List ℕ) (held : take (need deskShape rules) area ≡ image deskShape rules) where
-    steps-found : lookupSteps deskShape area ks ≡ some (found (firstMatch rules values) (falseBlocks 32 8 rules values))
+    steps-found : lookupSteps deskShape area ks ≡ some (found (firstMatch rules values) (falseBlocks 32 blocks rules values))
     unfolding upFrom
     steps-found =
         ap (lookupSteps deskShape area) (keys-in header)
@@ -124,7 +124,7 @@ module _ (table : List ℕ) (b : Bytes table) (sound : Accepted table) (header :
         ∙ ap some (ap (keysFound deskShape rules) (sym (keys-in header)) ∙ found-same)
 
     enough : leastWords ≤ length area
-    enough = omega (arith, keys-root 5 rules 4 (omega arith) .inside, image-holds deskShape (desk-lawful .sized) rules (need deskShape rules) area held .room)
+    enough = omega (arith, keys-root 5 rules 4 (omega arith) .inside, image-indexed deskShape (desk-lawful .sized) rules (need deskShape rules) area held .room)
 
     -- what is said of what was found is what is said of the winner
     said-same : (o : Option ℕ) → Told (λ place. matches values (ruleAt rules place)) (length rules) o → (falses : ℕ)
@@ -143,7 +143,7 @@ module _ (table : List ℕ) (b : Bytes table) (sound : Accepted table) (header :
         look-steps table area header (eq-eqb (length header) headerSize right) (eq-eqb (length table % recordSize) 0 (s .whole))
         (le-ltb mostRules (ruleCount table) (s .few)) (le-ltb (length area) leastWords enough)
         ∙ ap (stepsSaid table) steps-found
-        ∙ said-same (firstMatch rules values) (first-told rules values) (falseBlocks 32 8 rules values)
+        ∙ said-same (firstMatch rules values) (first-told rules values) (falseBlocks 32 blocks rules values)
 
 -- over the index of an accepted table, unchanged, the steps say what table and header fix
 pub demand-2 : (table : List ℕ) → Bytes table → Accepted table → (header : List ℕ) → Bytes header → length header ≡ 13 → (area : List ℕ)
@@ -166,7 +166,7 @@ rule-known table sound place h =
 module _ (table : List ℕ) (sound : Accepted table) (header : List ℕ) where
   -- the number of false blocks
   abbrev falses : ℕ
-  falses = falseBlocks 32 8 (rulesOf table) (headerValues header)
+  falses = falseBlocks 32 blocks (rulesOf table) (headerValues header)
 
   -- no rule matches
   pub answer-none : firstMatch (rulesOf table) (headerValues header) ≡ none → answerSaid table header ≡ 0 ∷ falses ∷ 0 ∷ []
@@ -194,13 +194,13 @@ module _ (table : List ℕ) (sound : Accepted table) (header : List ℕ) where
           (1 ∷ place ∷ actionValues (m .0), m .2)
 
   -- which is at most 8
-  pub answer-few : falses ≤ 8
-  answer-few = falses-le 32 8 (rulesOf table) (headerValues header) (omega arith) (omega (arith, rules-size table, accepted-sound table sound .few))
+  pub answer-few : falses ≤ blocks
+  answer-few = falses-le 32 blocks (rulesOf table) (headerValues header) (omega arith) (omega (arith, rules-size table, accepted-sound table sound .few))
 
 -- so over the index neither 9 nor 5 comes
 pub demand-2-done : (table : List ℕ) → Bytes table → Accepted table → (header : List ℕ) → Bytes header → length header ≡ 13 → (area : List ℕ)
     → take (need deskShape (rulesOf table)) area ≡ image deskShape (rulesOf table)
-    → (vs : List ℕ) × (lookSaid table area header ≡ 0 ∷ falseBlocks 32 8 (rulesOf table) (headerValues header) ∷ vs) × (falseBlocks 32 8 (rulesOf table) (headerValues header) ≤ 8)
+    → (vs : List ℕ) × (lookSaid table area header ≡ 0 ∷ falseBlocks 32 blocks (rulesOf table) (headerValues header) ∷ vs) × (falseBlocks 32 blocks (rulesOf table) (headerValues header) ≤ blocks)
 demand-2-done table b sound header c right area held =
     let done = answer-done table sound header in
     (done .0, demand-2 table b sound header c right area held ∙ done .1, answer-few table sound header)

@@ -1,8 +1,7 @@
 -- Over an area that holds the index of some rules, for any lawful shape, the steps find the lowest rule that all keys hit, and the blocks that
 -- deceive before it.
 -- Assumes nothing.
-use mathlib.Core.Path.{_≡_, refl, sym, ap, ap₂, fun-ext, _∙_}
-use mathlib.Core.Logic.{⊎-elim}
+use mathlib.Core.Path.{_≡_, refl, sym, ap, ap₂, _∙_, fun-ext}
 use mathlib.Core.Bool.{Bool, true, not, _&&_}
 use mathlib.Core.List.{List, [], _∷_, map}
 use mathlib.Core.Option.{Option, some}
@@ -10,27 +9,28 @@ use Prim.Native.Nat.{ℕ, zero, suc, _+_, _*_, _≤_, _<_}
 use native.Mathlib.Omega.{arith}
 use lib.Bits.{bitAnd}
 use lib.ListN.{length, getD, take, drop, replicate, length-map, length-take}
-use Rattle.bits.specs.Tests.{any, all, count}
 use Rattle.bits.specs.Word.{wordOf, pack, nonzero, andAll}
-use Rattle.bits.proofs.TestLaws.{and-trues, and-both, or-trues}
-use Rattle.bits.proofs.ListLaws.{or-left, or-right, any-map, all-map, all-ext, take-map, drop-map, map-ext, map-map}
+use Rattle.bits.specs.Tests.{any, all, count}
+use Rattle.bits.proofs.TestLaws.{and-trues, and-both}
+use Rattle.bits.proofs.ListLaws.{any-map, all-ext, all-map, map-ext, take-map, drop-map, map-map, any-implied}
 use Rattle.bits.proofs.WordLaws.{nonzero-word}
 use Rattle.bits.proofs.WordSetLaws.{zipAnd, and-word, mask-word}
 use Rattle.bits.proofs.PackLaws.{pack-at}
 use Rattle.rules.specs.Rule.{Rule}
 use Rattle.rules.specs.Match.{blockOf, blocksBefore}
+use Rattle.area.specs.Shape.{Shape}
 use Rattle.index.specs.Key.{Key, hit}
 use Rattle.index.specs.Keys.{keys}
-use Rattle.index.specs.Shape.{Shape}
 use Rattle.index.specs.Image.{vector, image}
 use Rattle.index.proofs.KeyLaws.{Stands}
+use Rattle.index.proofs.OrderLaws.{Within}
 use Rattle.index.proofs.ImageLaws.{record-summary, record-vector}
 use Rattle.lookup.specs.Walk.{ends, summariesAt, vectorAt}
 use Rattle.lookup.specs.Scan.{Found, found, meet, resolve}
 use Rattle.lookup.specs.Look.{lookupSteps}
 use Rattle.lookup.proofs.ScanLaws.{chunk, winner, scan-all}
 use Rattle.lookup.proofs.ShapeLaws.{over, Lawful, twoLevel, two-lawful}
-use Rattle.lookup.proofs.WalkLaws.{ends-more, Holds, image-holds, walk-key}
+use Rattle.lookup.proofs.WalkLaws.{ends-more, Indexed, image-indexed, walk-key}
 
 -- ---- rules that keys hit
 
@@ -83,12 +83,6 @@ and-fields size c h t (k ∷ ks) =
 
 -- ---- a block in which all keys hit a rule is one in which each hits some rule
 
-any-implied : (t u : Rule → Bool) → ((r : Rule) → t r ≡ true → u r ≡ true) → (c : List Rule) → any t c ≡ true → any u c ≡ true
-unfolding any
-any-implied t u i [] h = h
-any-implied t u i (r ∷ c) h =
-    ⊎-elim (λ e. or-left (u r) (any u c) (i r e)) (λ e. or-right (u r) (any u c) (any-implied t u i c e)) (or-trues (t r) (any t c) h)
-
 each-hits : (ks : List Key) (c : List Rule) → any (hitAll ks) c ≡ true → all (λ k. any (hit k) c) ks ≡ true
 unfolding hitAll all
 each-hits [] c h = refl
@@ -96,11 +90,6 @@ each-hits (k ∷ ks) c h =
     and-both (any (hit k) c) (all (λ k. any (hit k) c) ks)
     (any-implied (hitAll (k ∷ ks)) (hit k) (λ r e. and-trues (hit k r) (hitAll ks r) e .0) c h)
     (each-hits ks c (any-implied (hitAll (k ∷ ks)) (hitAll ks) (λ r e. and-trues (hit k r) (hitAll ks r) e .1) c h))
-
--- the keys are of the index's n fields
-abbrev pub Within : ℕ → List Key → Type 0
-Within n [] = Unit {0}
-Within n (k ∷ ks) = (k .field < n) × Within n ks
 
 -- ---- the blocks in order, from what the index holds of the keys
 
@@ -154,13 +143,13 @@ module _ (S : Shape) (lawful : Lawful S) (rules : List Rule) where
 
   -- ---- the walks
 
-  module _ (area : List ℕ) (H : Holds S rules area) where
+  module _ (area : List ℕ) (held : Indexed S rules area) where
     -- a record whose key has the same hits holds the same vector, and the same stands over it
     parts-at : (n : ℕ) (l k : Key) → Stands (keys (S .fields) rules) n l → map (hit l) rules ≡ map (hit k) rules
         → (summariesAt S area n ≡ S .summary (vector S rules k)) × (vectorAt S area n ≡ vector S rules k)
     unfolding summariesAt vectorAt vector
     parts-at n l k stands e =
-        let row = H .row n l stands in
+        let row = held .row n l stands in
         let v : vector S rules l ≡ vector S rules k = ap (pack (S .size) (S .blocks)) e in (
           ap (λ r. take (S .summaries) (drop 2 r)) row ∙ record-summary S (lawful .sized) rules (keys (S .fields) rules) l ∙ ap (S .summary) v,
           ap (drop (2 + S .summaries)) row ∙ record-vector S (lawful .sized) rules (keys (S .fields) rules) l ∙ v,
@@ -177,7 +166,7 @@ module _ (S : Shape) (lawful : Lawful S) (rules : List Rule) where
     unfolding ends
     ends-reached [] w = record { rows = []; there = refl; overs = refl; vectors = refl }
     ends-reached (k ∷ ks) w =
-        let one = walk-key S rules area H k (w .0) in
+        let one = walk-key S rules area held k (w .0) in
         let more = ends-reached ks (w .1) in
         let here = parts-at (one .end) (one .key) k (one .stands) (one .hits) in
         record {
@@ -198,7 +187,7 @@ module _ (S : Shape) (lawful : Lawful S) (rules : List Rule) where
   -- over an area that starts with the image, whoever wrote it
   pub steps-image : (n : ℕ) (area : List ℕ) → take n area ≡ image S rules → (k : Key) (ks : List Key) → Within (S .fields) (k ∷ ks)
       → length rules ≤ S .blocks * S .size → lookupSteps S area (k ∷ ks) ≡ some (keysFound S rules (k ∷ ks))
-  steps-image n area e = steps-held area (image-holds S (lawful .sized) rules n area e)
+  steps-image n area e = steps-held area (image-indexed S (lawful .sized) rules n area e)
 
 -- so with a second level of aggregation over 128 words: 4096 rules
 pub wide-steps : (rules : List Rule) → length rules ≤ 4096 → (n : ℕ) (area : List ℕ) → take n area ≡ image (twoLevel 5 32 4) rules

@@ -5,7 +5,10 @@ pub mod WalkLaws
 pub mod HeldLaws
 pub mod MatchLaws
 pub mod LookLaws
-pub mod TurnLaws
+pub mod ReadLaws
+pub mod WalkTurns
+pub mod FieldTurns
+pub mod BlockTurns
 pub mod LookedLaws
 pub mod AnsweredLaws
 pub mod Demand2

@@ -12,7 +12,7 @@ use Rattle.rules.specs.declared.Decoded.the-variants.{Known, Unknown}
 use Rattle.rules.specs.Action.{actionIn}
 use Rattle.rules.specs.Table.{recordSize, mostRules, ruleCount, recordAt}
 use Rattle.rules.specs.Header.{headerSize, headerValues}
-use Rattle.index.specs.Shape.{deskShape}
+use Rattle.area.specs.Shape.{deskShape}
 use Rattle.lookup.specs.Said.{actionValues, matchSaid, noMatchSaid}
 use Rattle.lookup.specs.Scan.{found}
 use Rattle.lookup.specs.Look.{headerKeys, widths, lookupSteps, foundSaid, stepsSaid, leastWords, lookSaid}

@@ -19,8 +19,9 @@ use Rattle.rules.proofs.TableLaws.{length-record, accepted-sound}
 use Rattle.rules.proofs.RuleLaws.{value-small, agreement}
 use Rattle.rules.proofs.MatchLaws.{rules-size, rules-at, record-bytes, matches-in}
 use Rattle.index.specs.Key.{Key, at, hit}
+use Rattle.index.proofs.OrderLaws.{Within}
 use Rattle.lookup.specs.Look.{keysFrom, headerKeys, widths}
-use Rattle.lookup.proofs.HeldLaws.{hitAll, Within}
+use Rattle.lookup.proofs.HeldLaws.{hitAll}
 
 -- ---- a header's keys
 

@@ -5,19 +5,18 @@ use mathlib.Core.Logic.{⊎-elim}
 use mathlib.Core.Bool.{Bool, true, false, not, _&&_}
 use mathlib.Core.List.{List, [], _∷_}
 use mathlib.Core.Option.{Option, none, some}
-use Prim.Native.Nat.{ℕ, zero, suc, _+_, _-_, _*_, _/_, _^_, _≤_, _<_}
-use native.Mathlib.Nat.{mod-eq-of-lt, zero-mul, suc-mul, zero-add, add-zero, add-sub-of-le}
+use Prim.Native.Nat.{ℕ, zero, suc, _+_, _-_, _*_, _/_, _≤_, _<_}
+use native.Mathlib.Nat.{zero-mul, suc-mul, zero-add, add-zero, add-sub-of-le}
 use native.Mathlib.Omega.{arith}
 use lib.Arith.{digits-div}
-use lib.Bits.{and-mask}
 use lib.Count.{trailingZeros}
 use lib.Dec.{eqb}
 use lib.ListN.{length, getD, take, drop, length-take, length-drop}
 use lib.Seq.{getD-take, getD-drop}
 use borrow.Author.Tests.{not-true, not-false}
+use Rattle.bits.specs.Word.{wordOf, nonzero}
 use Rattle.bits.specs.Tests.{any, lowest, count}
-use Rattle.bits.specs.Word.{wordOf, nonzero, andAll}
-use Rattle.bits.proofs.TestLaws.{decided, less, or-falses, Lowest, Never, lowest-none, lowest-some}
+use Rattle.bits.proofs.TestLaws.{decided, or-falses, less, Lowest, Never, lowest-none, lowest-some}
 use Rattle.bits.proofs.WordLaws.{nonzero-word, trailing-word}
 use Rattle.rules.specs.Match.{blocksBefore}
 use Rattle.lookup.specs.Scan.{Found, found, scan}
@@ -40,11 +39,6 @@ module _ (size : ℕ) (tried : ℕ → Bool) (word : ℕ → ℕ) (k b : ℕ) wh
   pub scan-wins : tried b ≡ true → eqb (word b) 0 ≡ false → scan size tried word (suc k) b ≡ found (some (b * size + trailingZeros size (word b))) 0
   unfolding scan
   scan-wins e z = rw (e, scan) (rw z)
-
--- the innermost of the intersected words needs no mask
-pub and-last : (size w : ℕ) → w < 2 ^ size → andAll size (w ∷ []) ≡ w
-unfolding andAll
-and-last size w h = and-mask w size ∙ mod-eq-of-lt h
 
 -- ---- a block of the tests
 

@@ -1,20 +1,19 @@
 -- What lookup asks of a shape, and that one level of aggregation over a vector gives it; a second level over the first is one more shape that does.
 -- Assumes nothing.
 use mathlib.Core.Path.{_≡_, refl, ap, ap₂, _∙_}
-use mathlib.Core.Bool.{Bool, true, false, _&&_}
-use mathlib.Core.List.{List, [], _∷_, _++_, map}
+use mathlib.Core.Bool.{Bool, _&&_}
+use mathlib.Core.List.{List, _++_, map}
 use Prim.Native.Nat.{ℕ, suc, _+_, _*_, _/_, _%_, _≤_, _<_}
 use native.Mathlib.Nat.{zero-mul, zero-add, div-lt-iff-lt-mul, mod-lt, div-add-mod', zero-lt-suc}
 use native.Mathlib.Omega.{arith}
 use lib.ListN.{getD, length-append}
-use Rattle.bits.specs.Tests.{all}
 use Rattle.bits.specs.Word.{pack, bit, nonzero, aggregate, andAll}
-use Rattle.bits.proofs.TestLaws.{and-trues, and-both}
-use Rattle.bits.proofs.ListLaws.{all-map, all-ext}
+use Rattle.bits.specs.Tests.{all}
+use Rattle.bits.proofs.ListLaws.{all-ext, all-map, all-implied, and-implied}
 use Rattle.bits.proofs.WordLaws.{bit-nonzero}
 use Rattle.bits.proofs.WordSetLaws.{bit-all}
 use Rattle.bits.proofs.PackLaws.{aggregate-bit, length-aggregate}
-use Rattle.index.specs.Shape.{Shape, oneLevel, deskShape}
+use Rattle.area.specs.Shape.{Shape, oneLevel, deskShape}
 use Rattle.index.proofs.ImageLaws.{Sized, one-level-sized}
 
 -- what stands over the vector of some tests
@@ -70,18 +69,6 @@ twoLevel fields size groups = record {
       bit (andAll size (map (λ s. getD s 0 0) over)) (b / size) && bit (andAll size (map (λ s. getD s (suc (b / size)) 0) over)) (b % size);
 }
 
-all-implied : {A : Type 0} (t u : A → Bool) → ((x : A) → u x ≡ true → t x ≡ true) → (l : List A) → all u l ≡ true → all t l ≡ true
-unfolding all
-all-implied t u i [] h = refl
-all-implied t u i (x ∷ l) h =
-    let s = and-trues (u x) (all u l) h in
-    and-both (t x) (all t l) (i x (s .0)) (all-implied t u i l (s .1))
-
-and-implied : (a b : Bool) → (b ≡ true → a ≡ true) → (a && b) ≡ b
-and-implied a true i = ap (λ x. x && true) (i refl)
-and-implied true false i = refl
-and-implied false false i = refl
-
 -- a word over the words ws, then ws: place 0, and the places after it
 top-word : (size : ℕ) (ws : List ℕ) → getD (aggregate size 1 ws ++ ws) 0 0 ≡ getD (aggregate size 1 ws) 0 0
 unfolding aggregate pack
@@ -124,7 +111,7 @@ module _ (fields size groups : ℕ) (pos : 0 < size) (fits : groups ≤ size) (h
   unfolding agg
   both-tried =
       and-implied (all (λ h. nonzero (getD (agg h) (b / size) 0)) hs) (all (λ h. bit (getD (agg h) (b / size) 0) (b % size)) hs)
-      (all-implied (λ h. nonzero (getD (agg h) (b / size) 0)) (λ h. bit (getD (agg h) (b / size) 0) (b % size))
+      (all-implied (λ h. bit (getD (agg h) (b / size) 0) (b % size)) (λ h. nonzero (getD (agg h) (b / size) 0))
       (λ h. bit-nonzero (getD (agg h) (b / size) 0) (b % size)) hs)
       ∙ all-ext (λ h. bit (getD (agg h) (b / size) 0) (b % size)) (λ h. nonzero (getD (pack size (groups * size) h) b 0))
       (λ h. aggregate-bit size groups (pack size (groups * size) h) (b / size) (b % size) group (mod-lt b pos)

@@ -16,14 +16,16 @@ use Rattle.bits.specs.Path.{Path}
 use Rattle.bits.specs.Word.{digit}
 use Rattle.bits.proofs.TestLaws.{decided, less}
 use Rattle.rules.specs.Rule.{Rule}
-use Rattle.index.specs.Key.{Key, at, member, placeFrom, hit}
+use Rattle.area.specs.Shape.{Shape, width}
+use Rattle.index.specs.Key.{Key, at, hasRecord, placeFrom, hit}
 use Rattle.index.specs.Keys.{keys}
-use Rattle.index.specs.Shape.{Shape, width}
 use Rattle.index.specs.Image.{child, recordOf, image}
 use Rattle.index.specs.Need.{need}
+use Rattle.index.proofs.KeyLaws.{further, Stands, place-in, place-out}
+use Rattle.index.proofs.GrownLaws.{keys-root}
+use Rattle.index.proofs.ReachLaws.{keys-absent, hits-stop}
 use Rattle.index.proofs.CountLaws.{records-law}
-use Rattle.index.proofs.ImageLaws.{Sized, length-image, record-child, image-record}
-use Rattle.index.proofs.KeyLaws.{further, Stands, place-in, place-out, keys-absent, keys-root, hits-stop}
+use Rattle.index.proofs.ImageLaws.{record-child, Sized, length-image, image-record}
 use Rattle.lookup.specs.Walk.{rowAt, bad, walkFrom, walk, ends}
 
 -- ---- one step
@@ -66,17 +68,17 @@ module _ (S : Shape) (area : List ℕ) (k : Key) (ks : List Key) where
 
 -- ---- an area that holds the index
 
--- each of the index's records stands in the area
-pub record Holds (S : Shape) (rules : List Rule) (area : List ℕ) : Type 0 where
+-- the area holds the index of these rules: each record's words stand at its number, and it has room for all
+pub record Indexed (S : Shape) (rules : List Rule) (area : List ℕ) : Type 0 where
   pub row : (n : ℕ) (k : Key) → Stands (keys (S .fields) rules) n k → rowAt S area n ≡ recordOf S rules (keys (S .fields) rules) k
   pub room : length (keys (S .fields) rules) ≤ length area / width S
 
--- an area that starts with the image holds it
-pub image-holds : (S : Shape) → Sized S → (rules : List Rule) (n : ℕ) (area : List ℕ) → take n area ≡ image S rules → Holds S rules area
+-- an area that starts with the image holds the index
+pub image-indexed : (S : Shape) → Sized S → (rules : List Rule) (n : ℕ) (area : List ℕ) → take n area ≡ image S rules → Indexed S rules area
 unfolding rowAt need
-image-holds S sized rules n area e =
+image-indexed S sized rules n area e =
     let whole : image S rules ++ drop n area ≡ area = ap (λ l. l ++ drop n area) (sym e) ∙ take-append-drop n area in
-    subst (Holds S rules) whole (record {
+    subst (Indexed S rules) whole (record {
       row = λ m k stands. image-record S sized rules m k stands (drop n area);
       room = le-div-iff-mul-le {k = width S} (omega arith) .1
           (rw (records-law (S .fields) rules) (omega (arith, length-append (image S rules) (drop n area), length-image S sized rules)));
@@ -90,14 +92,14 @@ pub record Ended (S : Shape) (rules : List Rule) (k : Key) (o : Option ℕ) : Ty
   pub stands : Stands (keys (S .fields) rules) end key
   pub hits : map (hit key) rules ≡ map (hit k) rules
 
-module _ (S : Shape) (rules : List Rule) (area : List ℕ) (H : Holds S rules area) where
+module _ (S : Shape) (rules : List Rule) (area : List ℕ) (held : Indexed S rules area) where
   abbrev ks : List Key
   ks = keys (S .fields) rules
 
   -- the child that is read is the number of the record one bit further
   next-place : (k : Key) (n : ℕ) (b : Bool) → Stands ks n k → next S area n b ≡ placeFrom 0 (further k b) ks
   unfolding child
-  next-place k n b s = ap (λ (l : List ℕ). getD l (digit b) 0) (H .row n k s) ∙ record-child S rules ks k b
+  next-place k n b s = ap (λ (l : List ℕ). getD l (digit b) 0) (held .row n k s) ∙ record-child S rules ks k b
 
   -- a record whose path goes on is no root
   child-root : (k : Key) (b : Bool) (i : ℕ) → Stands ks i (further k b) → S .fields ≤ i
@@ -111,7 +113,7 @@ module _ (S : Shape) (rules : List Rule) (area : List ℕ) (H : Holds S rules ar
   unfolding bad
   child-good k hf b i s =
       let low = child-root k b i s in
-      let high : i < length area / width S = omega (arith, H .room, s .inside) in
+      let high : i < length area / width S = omega (arith, held .room, s .inside) in
       (ne-eqb i 0 (λ z. omega arith), ap₂ (λ s t. s || t) (le-ltb i (S .fields) low) (lt-leb (length area / width S) i high))
 
   -- where no record goes on, no rule's path does; where one does, the walk goes on there
@@ -124,10 +126,10 @@ module _ (S : Shape) (rules : List Rule) (area : List ℕ) (H : Holds S rules ar
     stands = s;
     hits = ap (λ (p : Path). map (hit (at (k .field) p)) rules) (sym (append-nil (k .path)));
   }
-  walk-ends (b ∷ bs) k hf n s = ⊎-elim (on (walk-ends bs (further k b) hf)) stop (decided (member (further k b) ks))
+  walk-ends (b ∷ bs) k hf n s = ⊎-elim (on (walk-ends bs (further k b) hf)) stop (decided (hasRecord (further k b) ks))
     where
       on : ((i : ℕ) → Stands ks i (further k b) → Ended S rules (at (k .field) ((k .path ++ (b ∷ [])) ++ bs)) (walkFrom S area i bs))
-          → member (further k b) ks ≡ true → Ended S rules (at (k .field) (k .path ++ b ∷ bs)) (walkFrom S area n (b ∷ bs))
+          → hasRecord (further k b) ks ≡ true → Ended S rules (at (k .field) (k .path ++ b ∷ bs)) (walkFrom S area n (b ∷ bs))
       on later m =
           let there : Stands ks (next S area n b) (further k b) = rw (next-place k n b s) (place-in (further k b) ks m) in
           let good = child-good k hf b (next S area n b) there in
@@ -140,7 +142,7 @@ module _ (S : Shape) (rules : List Rule) (area : List ℕ) (H : Holds S rules ar
             hits = rest .hits ∙ ap (λ (p : Path). map (hit (at (k .field) p)) rules) (append-snoc (k .path) b bs);
           }
 
-      stop : member (further k b) ks ≡ false → Ended S rules (at (k .field) (k .path ++ b ∷ bs)) (walkFrom S area n (b ∷ bs))
+      stop : hasRecord (further k b) ks ≡ false → Ended S rules (at (k .field) (k .path ++ b ∷ bs)) (walkFrom S area n (b ∷ bs))
       stop m = record {
         end = n;
         there = walk-stop S area n b bs (eq-eqb (next S area n b) 0 (next-place k n b s ∙ place-out (further k b) 0 ks m));

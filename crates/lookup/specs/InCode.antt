@@ -8,7 +8,7 @@ use lib.ListN.{length, getD}
 use Rattle.rules.specs.declared.numbers.Place.{Place}
 use Rattle.rules.specs.declared.numbers.Place.the-variants.{At, Nowhere}
 use Rattle.rules.specs.Refusal.{said}
-use Rattle.index.specs.Shape.{width, deskShape}
+use Rattle.area.specs.Shape.{recordWords, aggregateStart}
 use Rattle.lookup.specs.declared.walk.Walk.{Walk}
 use Rattle.lookup.specs.declared.walk.Walk.the-variants.{Ends, Damaged}
 use Rattle.lookup.specs.declared.walk.Ends as ends
@@ -22,10 +22,6 @@ use Rattle.lookup.specs.Said.{actionValues}
 
 -- ---- walks
 
--- the words of a record: 11
-abbrev pub wordsIn : ℕ
-wordsIn = width deskShape
-
 -- the record that a walk reached, or nothing where it met damage
 unfoldable pub reached : Walk → Option ℕ
 reached (Ends n) = some n
@@ -37,11 +33,11 @@ reachedAll e = cond (e .sound) (some (e .records)) none
 
 -- the five records stand in the area
 abbrev pub AllInside : List ℕ → List ℕ → Type 0
-AllInside area records = (f : ℕ) → f < 5 → getD records f 0 < length area / wordsIn
+AllInside area records = (f : ℕ) → f < 5 → getD records f 0 < length area / recordWords
 
 -- the aggregate of record n
 abbrev pub aggregateAt : List ℕ → ℕ → ℕ
-aggregateAt area n = getD area (wordsIn * n + 2) 0
+aggregateAt area n = getD area (recordWords * n + aggregateStart) 0
 
 -- ---- blocks
 

@@ -3,7 +3,7 @@
 use mathlib.Core.Bool.{not, cond}
 use mathlib.Core.List.{List, [], _∷_, map}
 use mathlib.Core.Option.{Option, none, some}
-use Prim.Native.Nat.{ℕ, suc, _%_}
+use Prim.Native.Nat.{ℕ, suc, _*_, _%_}
 use lib.Dec.{eqb, ltb}
 use lib.ListN.{length}
 use Rattle.bits.specs.Path.{bits}
@@ -11,8 +11,8 @@ use Rattle.rules.specs.Field.{Field, fields}
 use Rattle.rules.specs.Action.{actionIn}
 use Rattle.rules.specs.Table.{recordSize, mostRules, ruleCount, recordAt}
 use Rattle.rules.specs.Header.{headerSize, headerValues}
+use Rattle.area.specs.Shape.{Shape, deskShape, recordWords}
 use Rattle.index.specs.Key.{Key, at}
-use Rattle.index.specs.Shape.{Shape, deskShape}
 use Rattle.lookup.specs.Said.{matchSaid, noMatchSaid}
 use Rattle.lookup.specs.Walk.{ends, summariesAt, vectorAt}
 use Rattle.lookup.specs.Scan.{Found, resolve}
@@ -56,9 +56,9 @@ unfoldable pub stepsSaid : List ℕ → Option Found → List ℕ
 stepsSaid table none = 9 ∷ []
 stepsSaid table (some r) = foundSaid table r
 
--- the words of the five roots
+-- "under 55 words": those of the five roots
 abbrev pub leastWords : ℕ
-leastWords = 55
+leastWords = deskShape .fields * recordWords
 
 -- of a table, an area and a header: "8, 1, 2, then 9 if the area has under 55 words", or a walk is damaged, or the place is too large; then 5
 unfoldable pub lookSaid : List ℕ → List ℕ → List ℕ → List ℕ

@@ -8,7 +8,7 @@ use lib.Count.{trailingZeros}
 use lib.Dec.{eqb}
 use lib.ListN.{getD}
 use Rattle.bits.specs.Word.{andAll}
-use Rattle.index.specs.Shape.{Shape}
+use Rattle.area.specs.Shape.{Shape}
 
 -- a place, if there is one, and "Beside the answer stands the number of false blocks."
 pub record Found : Type 0 where

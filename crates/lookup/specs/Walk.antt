@@ -9,8 +9,8 @@ use lib.Dec.{eqb, ltb, leb}
 use lib.ListN.{length, getD, take, drop}
 use Rattle.bits.specs.Path.{Path}
 use Rattle.bits.specs.Word.{digit}
+use Rattle.area.specs.Shape.{Shape, width}
 use Rattle.index.specs.Key.{Key}
-use Rattle.index.specs.Shape.{Shape, width}
 
 module _ (S : Shape) where
   -- the words of record n

@@ -3,17 +3,17 @@ ghost use mathlib.Core.Path.{_≡_};
 ghost use mathlib.Core.List.{map};
 ghost use Prim.Native.Nat.{_/_, _<_};
 ghost use lib.ListN.{length};
-ghost use Rattle.index.specs.Shape.{deskShape};
+ghost use Rattle.area.specs.Shape.{deskShape, recordWords};
 ghost use Rattle.lookup.specs.Walk.{vectorAt};
-ghost use Rattle.lookup.specs.InCode.{wordsIn, aggregateAt, AllInside};
+ghost use Rattle.lookup.specs.InCode.{aggregateAt, AllInside};
 
 // The vector of one record.
-fn vector_at(area: &[u32], row: usize) -> [u32; 8]
-    requires { ⌜ row < length (now area) / wordsIn ⌝ }
+fn vector_at(area: &[u32], row: usize) -> [u32; area::BLOCKS]
+    requires { ⌜ row < length (now area) / recordWords ⌝ }
     ensures { λ r. ⌜ r ≡ vectorAt deskShape (now (area .entry)) row ⌝ }
 {
-    let mut vector = [0u32; 8];
-    let start = area::RECORD_WORDS * row + area::VECTOR_AT;
+    let mut vector = [0u32; area::BLOCKS];
+    let start = area::RECORD_WORDS * row + area::VECTOR_START;
     for b in 0..area::BLOCKS {
         vector[b] = area[start + b];
     }
@@ -21,11 +21,11 @@ fn vector_at(area: &[u32], row: usize) -> [u32; 8]
 }
 
 // The five vectors, indexed by field and then by block.
-pub fn vectors_at(area: &[u32], records: [usize; 5]) -> [[u32; 8]; 5]
+pub fn vectors_at(area: &[u32], records: [usize; 5]) -> [[u32; area::BLOCKS]; 5]
     requires { ⌜ AllInside (now area) records ⌝ }
     ensures { λ r. ⌜ r ≡ map (vectorAt deskShape (now (area .entry))) records ⌝ }
 {
-    let mut vectors = [[0u32; 8]; 5];
+    let mut vectors = [[0u32; area::BLOCKS]; 5];
     for f in 0..rules::FIELDS {
         vectors[f] = vector_at(area, records[f]);
     }
@@ -40,7 +40,7 @@ pub fn aggregates_at(area: &[u32], records: [usize; 5]) -> [u32; 5]
     let mut aggregates = [0u32; 5];
     for f in 0..rules::FIELDS {
         let row = records[f];
-        aggregates[f] = area[area::RECORD_WORDS * row + area::AGGREGATE_AT];
+        aggregates[f] = area[area::RECORD_WORDS * row + area::AGGREGATE_START];
     }
     aggregates
 }

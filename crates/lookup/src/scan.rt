@@ -3,7 +3,7 @@ ghost use mathlib.Core.Path.{_≡_};
 ghost use Prim.Native.Nat.{_≤_, _<_};
 ghost use lib.Count.{trailingZeros};
 ghost use Rattle.bits.specs.Word.{bit, andAll};
-ghost use Rattle.index.specs.Shape.{deskShape};
+ghost use Rattle.area.specs.Shape.{deskShape, blocks};
 ghost use Rattle.lookup.specs.Scan.{meet, scan};
 ghost use Rattle.lookup.specs.InCode.{scanned};
 
@@ -24,8 +24,8 @@ fn common_bits(words: [u32; 5]) -> u32
 }
 
 // The intersection of the five vectors in block b.
-fn intersect(vectors: [[u32; 8]; 5], b: usize) -> u32
-    requires { ⌜ b < 8 ⌝ }
+fn intersect(vectors: [[u32; area::BLOCKS]; 5], b: usize) -> u32
+    requires { ⌜ b < blocks ⌝ }
     ensures { λ r. ⌜ r ≡ meet deskShape vectors b ⌝ }
 {
     common_bits([
@@ -53,8 +53,8 @@ fn lowest(word: u32) -> usize
 
 // A block whose five aggregate bits are all set may still be a false one: it is counted, and the next
 // is tried.
-pub fn try_blocks(vectors: [[u32; 8]; 5], aggregates: [u32; 5]) -> Scanned
-    ensures { λ r. ⌜ scanned r ≡ scan 32 (bit (andAll 32 aggregates)) (meet deskShape vectors) 8 0 ⌝ }
+pub fn try_blocks(vectors: [[u32; area::BLOCKS]; 5], aggregates: [u32; 5]) -> Scanned
+    ensures { λ r. ⌜ scanned r ≡ scan 32 (bit (andAll 32 aggregates)) (meet deskShape vectors) blocks 0 ⌝ }
 {
     let tried = common_bits(aggregates);
     let mut falses: usize = 0;

@@ -11,7 +11,7 @@ ghost use mathlib.Core.Option.{some};
 ghost use Prim.Native.Nat.{_≤_};
 ghost use lib.ListN.{length};
 ghost use Rattle.rules.specs.Header.{headerSize, headerValues};
-ghost use Rattle.index.specs.Shape.{deskShape};
+ghost use Rattle.area.specs.Shape.{deskShape};
 ghost use Rattle.lookup.specs.Scan.{found};
 ghost use Rattle.lookup.specs.Look.{headerKeys, widths, lookupSteps, foundSaid, stepsSaid, leastWords, lookSaid};
 ghost use Rattle.lookup.specs.InCode.{scanned, lookedSaid};

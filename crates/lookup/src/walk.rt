@@ -4,10 +4,10 @@ ghost use Prim.Native.Nat.{_/_, _≤_, _<_};
 ghost use lib.ListN.{length};
 ghost use Rattle.bits.specs.Path.{bits};
 ghost use Rattle.rules.specs.Header.{headerSize, headerValues};
-ghost use Rattle.index.specs.Shape.{deskShape};
+ghost use Rattle.area.specs.Shape.{deskShape, recordWords};
 ghost use Rattle.lookup.specs.Walk.{walkFrom, ends};
 ghost use Rattle.lookup.specs.Look.{headerKeys, widths, leastWords};
-ghost use Rattle.lookup.specs.InCode.{wordsIn, reached, reachedAll, AllInside};
+ghost use Rattle.lookup.specs.InCode.{reached, reachedAll, AllInside};
 
 // Where one field's walk ends.
 pub enum Walk {
@@ -24,7 +24,7 @@ pub struct Ends {
 
 // Down by the bits of a value, from the top, until a child is missing or the value is used up.
 fn go_down(area: &[u32], root: usize, value: u32, width: usize) -> Walk
-    requires { ⌜ (root < length (now area) / wordsIn) × (width ≤ 32) ⌝ }
+    requires { ⌜ (root < length (now area) / recordWords) × (width ≤ 32) ⌝ }
     ensures { λ r. ⌜ reached r ≡ walkFrom deskShape (now (area .entry)) root (bits width value) ⌝ }
 {
     let records = area.len() / area::RECORD_WORDS;

@@ -3,7 +3,7 @@
 -- Assumes nothing.
 use mathlib.Core.Path.{_≡_, sym, ap, _∙_}
 use mathlib.Core.Bool.{true}
-use mathlib.Core.List.{List, [], _∷_, map, flatten}
+use mathlib.Core.List.{List, [], _∷_, map, flatten, append-nil}
 use Prim.Native.Nat.{ℕ, _*_, _<_}
 use native.Mathlib.Omega.{arith}
 use lib.ListN.{length, take, length-map}
@@ -11,7 +11,7 @@ use lib.Seq.{ext-getD, take-length}
 use Rattle.bits.specs.Number.{Bytes}
 use Rattle.bits.proofs.EachLaws.{getD-map, map-along}
 use Rattle.bits.proofs.NumberLaws.{bytes-append}
-use Rattle.bits.proofs.RowLaws.{Rows, rows-size, row-at, rows-of}
+use Rattle.bits.proofs.RowLaws.{Rows, length-rows, row-at, rows-of}
 use Rattle.rules.specs.Rule.{ruleOf}
 use Rattle.rules.specs.Match.{noRule}
 use Rattle.rules.specs.Table.{recordSize, ruleCount, recordAt, rulesOf, fault, Accepted}
@@ -41,7 +41,7 @@ module _ (table o : List ℕ) (e : isOrder (ruleCount table) o ≡ true) where
 
   size : length (movedTable table o) ≡ ruleCount table * recordSize
   unfolding movedTable
-  size = rows-size recordSize (map (recordAt table) o) whole ∙ ap (λ (n : ℕ). n * recordSize) (length-map o (recordAt table) ∙ O .size)
+  size = length-rows recordSize (map (recordAt table) o) whole ∙ ap (λ (n : ℕ). n * recordSize) (length-map o (recordAt table) ∙ O .size)
 
   pub moved-count : ruleCount (movedTable table o) ≡ ruleCount table
   moved-count = omega (arith, size)
@@ -53,7 +53,9 @@ module _ (table o : List ℕ) (e : isOrder (ruleCount table) o ≡ true) where
   unfolding movedTable recordAt
   moved-record k h =
       let l : k < length o = rw (O .size) h in
-      row-at recordSize (map (recordAt table) o) whole k (rw (length-map o (recordAt table)) l) ∙ getD-map (recordAt table) o k [] 0 l
+      ap (λ (l : List ℕ). recordAt l k) (sym (append-nil (flatten (map (recordAt table) o))))
+      ∙ row-at recordSize (map (recordAt table) o) whole k (rw (length-map o (recordAt table)) l) []
+      ∙ getD-map (recordAt table) o k [] 0 l
 
   pub moved-rules : rulesOf (movedTable table o) ≡ moved (rulesOf table) o
   moved-rules =

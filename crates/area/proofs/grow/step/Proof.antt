@@ -7,7 +7,8 @@ use native.Mathlib.Omega.{arith}
 use lib.ListN.{length-set}
 use borrow.Author.Needs.{needs}
 use denote.Ref.{now}
-use Rattle.area.specs.Grow.{recordWords, State, mk, made}
+use Rattle.area.specs.Shape.{recordWords}
+use Rattle.area.specs.Grow.{State, mk, made}
 use Rattle.area.proofs.GrowLaws.{down-new, down-old, down-new-next}
 use Rattle.area.proofs.grow.step.Statement.{statement}
 use Rattle.area.proofs.grow.step.Tie as tie

@@ -5,6 +5,7 @@ use Prim.Native.Nat.{ℕ, _-_, _≤_}
 use native.Mathlib.Omega.{arith}
 use lib.ListN.{length, length-set}
 use denote.Ref.{now}
+use Rattle.area.specs.Shape.{blocks}
 use Rattle.area.specs.Upto.{upto}
 use Rattle.area.specs.Hand.{orWord, joined}
 use Rattle.area.proofs.UptoLaws.{upto-none, upto-more}
@@ -12,10 +13,10 @@ use Rattle.area.proofs.hand.or_into.Statement.{statement}
 use Rattle.area.proofs.hand.or_into.Tie as tie
 
 abbrev Inv-loop : tie.InvT-loop
-Inv-loop area₀ k c parent child w₀ area w = (w ≤ 8) × (length area ≡ length area₀) × (area ≡ upto (orWord k c) w area₀)
+Inv-loop area₀ k c parent child w₀ area w = (w ≤ blocks) × (length area ≡ length area₀) × (area ≡ upto (orWord k c) w area₀)
 
 abbrev μ-loop : tie.MeasureT-loop
-μ-loop area₀ k c parent child w₀ area w = 8 - w
+μ-loop area₀ k c parent child w₀ area w = blocks - w
 
 loop-holds : tie.Need-loop-holds Inv-loop μ-loop
 loop-holds c = (omega arith, refl, sym (upto-none (orWord (c .args .k) (c .args .c)) (now (c .args .area))))
@@ -31,7 +32,7 @@ returns : tie.Need-returns Inv-loop μ-loop
 unfolding joined
 returns c =
     let start = c .before .before in
-    let past : c .before .loop .w ≡ 8 = omega arith in
+    let past : c .before .loop .w ≡ blocks = omega arith in
     c .before .loop .inv .2 ∙ ap (λ (n : ℕ). upto (orWord (start .args .k) (start .args .c)) n (now (start .args .area))) past
 
 pub or-into-spec : {M : Type 1} → statement M

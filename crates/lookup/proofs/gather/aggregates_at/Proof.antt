@@ -8,8 +8,9 @@ use lib.ListN.{length, getD, take, length-set, length-map}
 use borrow.Author.Needs.{needs}
 use denote.Ref.{now}
 use Rattle.bits.proofs.EachLaws.{getD-map}
+use Rattle.bits.proofs.StoreLaws.{fill-more, fill-done}
+use Rattle.area.specs.Shape.{recordWords}
 use Rattle.lookup.specs.InCode.{aggregateAt}
-use Rattle.lookup.proofs.TurnLaws.{fill-more, fill-done}
 use Rattle.lookup.proofs.gather.aggregates_at.Statement.{statement}
 use Rattle.lookup.proofs.gather.aggregates_at.Tie as tie
 
@@ -23,7 +24,7 @@ loop-holds : tie.Need-loop-holds Inv-loop μ-loop
 loop-holds c = (omega arith, refl, refl)
 
 -- the record that field f reached stands in the area
-inside : (c : tie.In-loop Inv-loop μ-loop) → let a = c .before .before .args in 11 * getD (a .t2) (c .before .loop .f) 0 + 11 ≤ length (now (a .area))
+inside : (c : tie.In-loop Inv-loop μ-loop) → let a = c .before .before .args in recordWords * getD (a .t2) (c .before .loop .f) 0 + recordWords ≤ length (now (a .area))
 inside c = omega (arith, c .before .before .pre (c .before .loop .f) (omega arith))
 
 loop-again : tie.Need-loop-again Inv-loop μ-loop

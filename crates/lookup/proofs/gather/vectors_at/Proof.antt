@@ -8,9 +8,9 @@ use lib.ListN.{length, take, length-set, length-map}
 use borrow.Author.Needs.{needs}
 use denote.Ref.{now}
 use Rattle.bits.proofs.EachLaws.{getD-map}
-use Rattle.index.specs.Shape.{deskShape}
+use Rattle.bits.proofs.StoreLaws.{fill-more, fill-done}
+use Rattle.area.specs.Shape.{deskShape}
 use Rattle.lookup.specs.Walk.{vectorAt}
-use Rattle.lookup.proofs.TurnLaws.{fill-more, fill-done}
 use Rattle.lookup.proofs.gather.vectors_at.Statement.{statement}
 use Rattle.lookup.proofs.gather.vectors_at.Tie as tie
 

@@ -1,10 +1,10 @@
 -- `common_bits` meets its contract: each word fits, so the last needs no mask.
 -- Assumes nothing.
 use lib.ListN.{getD}
+use borrow.Author.Needs.{needs}
 use mir.Syntax.{w32}
 use mir.Val.{Fits}
-use borrow.Author.Needs.{needs}
-use Rattle.lookup.proofs.TurnLaws.{and-five}
+use Rattle.bits.proofs.CodeWordLaws.{and-five}
 use Rattle.lookup.proofs.scan.common_bits.Statement.{statement}
 use Rattle.lookup.proofs.scan.common_bits.Tie as tie
 
@@ -12,7 +12,7 @@ returns : tie.Need-returns
 returns c =
     let words = c .args .t1 in
     let last : Fits w32 (getD words 4 0) = search needs in
-    and-five words (search needs) (last .fits)
+    and-five 32 words (search needs) (last .fits)
 
 pub common-bits-spec : {M : Type 1} → statement M
 common-bits-spec =

@@ -4,7 +4,7 @@ use mathlib.Core.Path.{ap, _∙_}
 use borrow.Author.Needs.{needs}
 use Rattle.bits.specs.Word.{andAll}
 use Rattle.lookup.specs.Scan.{meet}
-use Rattle.lookup.proofs.TurnLaws.{column-five}
+use Rattle.lookup.proofs.BlockTurns.{column-five}
 use Rattle.lookup.proofs.scan.intersect.Statement.{statement}
 use Rattle.lookup.proofs.scan.intersect.Tie as tie
 

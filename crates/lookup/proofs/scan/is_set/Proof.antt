@@ -1,7 +1,7 @@
 -- `is_set` meets its contract: the lowest bit of the shifted word.
 -- Assumes nothing.
 use borrow.Author.Needs.{needs}
-use Rattle.lookup.proofs.TurnLaws.{bit-read}
+use Rattle.bits.proofs.CodeWordLaws.{bit-read}
 use Rattle.lookup.proofs.scan.is_set.Statement.{statement}
 use Rattle.lookup.proofs.scan.is_set.Tie as tie
 

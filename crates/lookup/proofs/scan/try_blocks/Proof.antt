@@ -8,19 +8,19 @@ use native.Mathlib.Omega.{arith}
 use lib.Count.{trailingZeros}
 use borrow.Author.Needs.{needs}
 use Rattle.bits.specs.Word.{bit, andAll}
-use Rattle.index.specs.Shape.{deskShape}
-use Rattle.lookup.specs.Scan.{found, meet, scan}
+use Rattle.area.specs.Shape.{blocks, deskShape}
+use Rattle.lookup.specs.Scan.{found, scan, meet}
 use Rattle.lookup.specs.InCode.{placed, scanned}
-use Rattle.lookup.proofs.TurnLaws.{counted, counted-none, block-past, block-false, block-wins, blocks-done}
+use Rattle.lookup.proofs.BlockTurns.{counted, counted-none, block-past, block-false, block-wins, blocks-done}
 use Rattle.lookup.proofs.scan.try_blocks.Statement.{statement}
 use Rattle.lookup.proofs.scan.try_blocks.Tie as tie
 
 abbrev Inv-loop : tie.InvT-loop
 Inv-loop vectors tried falses₀ b₀ falses b =
-    (b ≤ 8) × (falses ≤ b) × (counted falses (scan 32 (bit tried) (meet deskShape vectors) (8 - b) b) ≡ scan 32 (bit tried) (meet deskShape vectors) 8 0)
+    (b ≤ blocks) × (falses ≤ b) × (counted falses (scan 32 (bit tried) (meet deskShape vectors) (blocks - b) b) ≡ scan 32 (bit tried) (meet deskShape vectors) blocks 0)
 
 abbrev μ-loop : tie.MeasureT-loop
-μ-loop vectors tried falses₀ b₀ falses b = 8 - b
+μ-loop vectors tried falses₀ b₀ falses b = blocks - b
 
 loop-holds : tie.Need-loop-holds Inv-loop μ-loop
 loop-holds c = (omega arith, omega arith, counted-none _)
@@ -28,8 +28,8 @@ loop-holds c = (omega arith, omega arith, counted-none _)
 -- what the aggregates say is what was computed of them, once
 all-tried : (c : tie.After-common-bits Inv-loop μ-loop) →
     let a = c .before .args in
-    scan 32 (bit (c .common-bits .result)) (meet deskShape (a .vectors)) 8 0 ≡ scan 32 (bit (andAll 32 (a .aggregates))) (meet deskShape (a .vectors)) 8 0
-all-tried c = ap (λ (t : ℕ). scan 32 (bit t) (meet deskShape (c .before .args .vectors)) 8 0) (c .common-bits .ensures)
+    scan 32 (bit (c .common-bits .result)) (meet deskShape (a .vectors)) blocks 0 ≡ scan 32 (bit (andAll 32 (a .aggregates))) (meet deskShape (a .vectors)) blocks 0
+all-tried c = ap (λ (t : ℕ). scan 32 (bit t) (meet deskShape (c .before .args .vectors)) blocks 0) (c .common-bits .ensures)
 
 returns : tie.Need-returns Inv-loop μ-loop
 unfolding scanned placed
@@ -52,7 +52,7 @@ loop-again c =
     let l = k .loop in
     let t = bit (k .before .common-bits .result) in
     let w = meet deskShape (k .before .before .args .vectors) in
-    let rest : ℕ → _ = λ n. counted n (scan 32 t w (8 - (l .b + 1)) (l .b + 1)) in
+    let rest : ℕ → _ = λ n. counted n (scan 32 t w (blocks - (l .b + 1)) (l .b + 1)) in
     ⊎-elim
     (λ o. (
       omega arith,

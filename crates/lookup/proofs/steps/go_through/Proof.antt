@@ -5,16 +5,17 @@ use mathlib.Core.Bool.{Bool, cond}
 use mathlib.Core.List.{List}
 use mathlib.Core.Option.{none, some}
 use Prim.Native.Nat.{ℕ}
-use borrow.Author.Needs.{needs}
 use borrow.Author.Tests.{not-true, not-false}
+use borrow.Author.Needs.{needs}
 use denote.Ref.{now}
 use Rattle.bits.specs.Word.{bit, andAll}
 use Rattle.rules.specs.Refusal.{said}
-use Rattle.index.specs.Shape.{deskShape}
-use Rattle.lookup.specs.Scan.{meet, scan}
+use Rattle.area.specs.Shape.{blocks, deskShape}
+use Rattle.lookup.specs.Scan.{scan, meet}
 use Rattle.lookup.specs.Look.{foundSaid, stepsSaid}
 use Rattle.lookup.specs.InCode.{reachedAll, lookedSaid}
-use Rattle.lookup.proofs.TurnLaws.{keysOf, steps-none, steps-some}
+use Rattle.lookup.proofs.ReadLaws.{steps-none, steps-some}
+use Rattle.lookup.proofs.FieldTurns.{keysOf}
 use Rattle.lookup.proofs.steps.go_through.Statement.{statement}
 use Rattle.lookup.proofs.steps.go_through.Tie as tie
 
@@ -39,7 +40,7 @@ returns-2 c =
     let sound = ap (λ (s : Bool). cond s (some (e .records)) none) (not-false (e .sound) (t .if1 .left)) in
     c .said-of .ensures
     ∙ ap (foundSaid table) (c .before .try-blocks .ensures)
-    ∙ ap₂ (λ (l : List ℕ) (vs : List (List ℕ)). foundSaid table (scan 32 (bit (andAll 32 l)) (meet deskShape vs) 8 0)) (g .aggregates-at .ensures) (g .before .vectors-at .ensures)
+    ∙ ap₂ (λ (l : List ℕ) (vs : List (List ℕ)). foundSaid table (scan 32 (bit (andAll 32 l)) (meet deskShape vs) blocks 0)) (g .aggregates-at .ensures) (g .before .vectors-at .ensures)
     ∙ sym (ap (stepsSaid table) (steps-some (now (a .area)) (keysOf (now (a .header))) (e .records) (sym (d .go-down-all .ensures .0) ∙ sound)))
 
 pub go-through-spec : {M : Type 1} → statement M

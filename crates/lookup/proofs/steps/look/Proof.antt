@@ -5,10 +5,11 @@ use mathlib.Core.Bool.{true, false}
 use Prim.Native.Nat.{_/_, _%_}
 use lib.Dec.{eqb, ltb}
 use lib.ListN.{length}
-use borrow.Author.Needs.{needs}
 use borrow.Author.Tests.{eq-eqb, ne-eqb, lt-ltb, le-ltb}
+use borrow.Author.Needs.{needs}
 use denote.Ref.{now}
 use Rattle.rules.specs.Refusal.{said}
+use Rattle.lookup.specs.Look.{leastWords}
 use Rattle.lookup.specs.InCode.{lookedSaid}
 use Rattle.lookup.proofs.LookLaws.{look-header, look-ragged, look-many, look-short, look-steps}
 use Rattle.lookup.proofs.steps.look.Statement.{statement}
@@ -47,7 +48,7 @@ unfolding lookedSaid said
 returns-4 c =
     let a = c .before .before .before .before .before .before .before .args in
     sym (look-short (now (a .table)) (now (a .area)) (now (a .header)) (right (c .before .before .before)) (whole (c .before .before)) (few (c .before))
-    (lt-ltb (length (now (a .area))) 55 (c .if4 .taken)))
+    (lt-ltb (length (now (a .area))) leastWords (c .if4 .taken)))
 
 returns-5 : tie.Need-returns-5
 returns-5 c =
@@ -55,7 +56,7 @@ returns-5 c =
     let a = k .before .before .before .before .before .before .before .args in
     c .go-through .ensures
     ∙ sym (look-steps (now (a .table)) (now (a .area)) (now (a .header)) (right (k .before .before .before)) (whole (k .before .before)) (few (k .before))
-    (le-ltb (length (now (a .area))) 55 (k .if4 .left)))
+    (le-ltb (length (now (a .area))) leastWords (k .if4 .left)))
 
 pub look-spec : {M : Type 1} → statement M
 look-spec =

@@ -8,16 +8,17 @@ use lib.ListN.{length, getD}
 use borrow.Author.Tests.{leb-true, leb-false}
 use denote.Ref.{now}
 use Rattle.bits.specs.Path.{bits}
-use Rattle.index.specs.Shape.{deskShape}
+use Rattle.bits.proofs.DigitLaws.{bit-small}
+use Rattle.area.specs.Shape.{deskShape, recordWords}
 use Rattle.lookup.specs.Walk.{walkFrom}
 use Rattle.lookup.specs.InCode.{reached}
-use Rattle.lookup.proofs.TurnLaws.{bit-small, step-stop, step-bad, step-on, bad-low, bad-high, bad-none}
+use Rattle.lookup.proofs.WalkTurns.{step-stop, step-bad, step-on, bad-low, bad-high, bad-none}
 use Rattle.lookup.proofs.walk.go_down.Statement.{statement}
 use Rattle.lookup.proofs.walk.go_down.Tie as tie
 
 abbrev Inv-loop : tie.InvT-loop
 Inv-loop area root value width records row₀ j₀ row j =
-    (j ≤ width) × (row < length area / 11) × (walkFrom deskShape area row (bits (width - j) value) ≡ walkFrom deskShape area root (bits width value))
+    (j ≤ width) × (row < length area / recordWords) × (walkFrom deskShape area row (bits (width - j) value) ≡ walkFrom deskShape area root (bits width value))
 
 abbrev μ-loop : tie.MeasureT-loop
 μ-loop area root value width records row₀ j₀ row j = width - j
@@ -33,10 +34,10 @@ small : (c : tie.After-bit-of Inv-loop μ-loop) → c .bit-of .result < 2
 small c =
     let l = c .before .before in
     let a = l .before .before .args in
-    bit-small (now (a .area)) (l .loop .row) (a .value) (a .width) (l .loop .j) _ (c .before .loop-test .taken) (c .bit-of .ensures)
+    omega (arith, c .bit-of .ensures, bit-small (a .width) (a .value) (l .loop .j))
 
 cast-child : tie.Need-cast-child Inv-loop μ-loop
-cast-child c = omega (arith, c .shared-slice-known2 .given (11 * c .before .before .before .loop .row + c .before .bit-of .result))
+cast-child c = omega (arith, c .shared-slice-known2 .given (recordWords * c .before .before .before .loop .row + c .before .bit-of .result))
 
 returns : tie.Need-returns Inv-loop μ-loop
 unfolding reached
@@ -54,9 +55,9 @@ returns-2 c =
     let l = b .before .before in
     let a = l .before .before .args in
     let area = now (a .area) in
-    let child = getD area (11 * l .loop .row + b .bit-of .result) 0 in
+    let child = getD area (recordWords * l .loop .row + b .bit-of .result) 0 in
     sym (step-bad area (l .loop .row) (a .value) (a .width) (l .loop .j) _ (b .before .loop-test .taken) (b .bit-of .ensures) (c .before .if1 .left)
-    (⊎-elim (λ t. bad-low area child (t .taken)) (λ t. bad-high area child (leb-true (length area / 11) child (t .1 .taken))) (c .if2 .came)))
+    (⊎-elim (λ t. bad-low area child (t .taken)) (λ t. bad-high area child (leb-true (length area / recordWords) child (t .1 .taken))) (c .if2 .came)))
     ∙ l .loop .inv .2
 
 loop-again : tie.Need-loop-again Inv-loop μ-loop
@@ -65,8 +66,8 @@ loop-again c =
     let l = b .before .before in
     let a = l .before .before .args in
     let area = now (a .area) in
-    let child = getD area (11 * l .loop .row + b .bit-of .result) 0 in
-    let high = leb-false (length area / 11) child (c .if3 .left) in (
+    let child = getD area (recordWords * l .loop .row + b .bit-of .result) 0 in
+    let high = leb-false (length area / recordWords) child (c .if3 .left) in (
       omega arith,
       high,
       sym (step-on area (l .loop .row) (a .value) (a .width) (l .loop .j) _ (b .before .loop-test .taken) (b .bit-of .ensures) (c .before .before .if1 .left)

@@ -6,17 +6,18 @@ use mathlib.Core.Option.{some}
 use Prim.Native.Nat.{ℕ, _+_, _-_, _/_, _≤_, _<_}
 use native.Mathlib.Numerals.{add-one}
 use native.Mathlib.Omega.{arith}
-use lib.ListN.{length, take, drop, set, length-set, getD-replicate}
+use lib.ListN.{length, set, take, drop, length-set, getD-replicate}
 use lib.Seq.{take-all, take-suc-set}
 use borrow.Author.Needs.{needs}
 use denote.Ref.{now}
 use Rattle.bits.specs.Path.{bits}
 use Rattle.rules.specs.Header.{headerValues}
-use Rattle.index.specs.Shape.{deskShape}
+use Rattle.area.specs.Shape.{deskShape, recordWords}
 use Rattle.lookup.specs.Walk.{walkFrom, walk, ends}
 use Rattle.lookup.specs.Look.{keysFrom, headerKeys}
 use Rattle.lookup.specs.InCode.{reached, reachedAll, AllInside}
-use Rattle.lookup.proofs.TurnLaws.{walk-inside, joined, joined-none, keysOf, keyAt, fields-bad, fields-on, inside-set}
+use Rattle.lookup.proofs.WalkTurns.{walk-inside}
+use Rattle.lookup.proofs.FieldTurns.{joined, joined-none, keysOf, keyAt, fields-bad, fields-on, inside-set}
 use Rattle.lookup.proofs.walk.go_down_all.Statement.{statement}
 use Rattle.lookup.proofs.walk.go_down_all.Tie as tie
 
@@ -72,11 +73,11 @@ loop-again c =
     let reaches : reached (d .go-down .result) ≡ some n = ap reached (c .before .row .given .1) in
     let path = bits (d .before .width-of .result) (d .before .before .value-of .result) in
     let met : walkFrom deskShape area (l .f) path ≡ some n = _∙_ {a = walkFrom deskShape area (l .f) path} (sym (d .go-down .ensures)) reaches in
-    let inside : n < length area / 11 = walk-inside area path (l .f) n (omega arith) met in
+    let inside : n < length area / recordWords = walk-inside area path (l .f) n (omega arith) met in
     let more = ap (λ (j : ℕ). take j (set (l .records) (l .f) n)) (add-one (l .f)) ∙ take-suc-set (l .records) (l .f) n (omega arith) in (
       omega arith,
       length-set (l .records) (l .f) n ∙ l .inv .1,
-      inside-set area (l .records) (l .f) n (omega arith) (l .inv .2) inside,
+      inside-set area (l .records) (l .f) n (l .inv .2) inside,
       ap (λ (ns : List ℕ). joined ns (ends deskShape area (drop (l .f + 1) (keysOf header)))) more
           ∙ sym (fields-on area header (take (l .f) (l .records)) (l .f) n (omega arith) (sym (walked d) ∙ reaches))
           ∙ l .inv .3,

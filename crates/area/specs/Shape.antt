@@ -35,3 +35,19 @@ oneLevel fields size blocks = record {
 -- the desk's: five fields, eight words of 32 places
 abbrev pub deskShape : Shape
 deskShape = oneLevel 5 32 8
+
+-- "records of 11 words"
+abbrev pub recordWords : ℕ
+recordWords = width deskShape
+
+-- "child for bit 0, child for bit 1, aggregate": after the two children
+abbrev pub aggregateStart : ℕ
+aggregateStart = 2
+
+-- "aggregate, eight vector words": the vector comes last
+abbrev pub vectorStart : ℕ
+vectorStart = aggregateStart + deskShape .summaries
+
+-- "eight vector words"
+abbrev pub blocks : ℕ
+blocks = deskShape .blocks
