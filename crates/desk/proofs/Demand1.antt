@@ -1,7 +1,7 @@
 -- Demand 1 through the calls: a refusal leaves what was lent as it was; an action that is not known is refusal 5 with its place, is never
 -- part of anything that is done, and is never answered.
 -- Assumes nothing.
-use mathlib.Core.Path.{_≡_, refl, sym, ap, subst, _∙_}
+use mathlib.Core.Path.{_≡_, sym, ap, subst, _∙_}
 use mathlib.Core.Logic.{_↔_}
 use mathlib.Core.Bool.{Bool, true, false, cond, true≢false}
 use mathlib.Core.List.{List, [], _∷_}
@@ -13,13 +13,13 @@ use lib.ListN.{length, getD}
 use Rattle.rules.specs.declared.Action.{Action}
 use Rattle.rules.specs.declared.Refusal.{Refusal}
 use Rattle.rules.specs.declared.Refusal.the-variants.{UnknownAction}
-use Rattle.rules.specs.declared.Decoded.the-variants.{Known, Unknown}
+use Rattle.rules.specs.declared.Decoded.the-variants.{Known}
 use Rattle.rules.specs.Action.{actionIn, isUnknown}
 use Rattle.rules.specs.Refusal.{said, firstRefusal}
 use Rattle.rules.specs.Rule.{Rule}
 use Rattle.rules.specs.Table.{ruleCount, recordAt, rulesOf, verdict, Accepted}
 use Rattle.rules.proofs.TableLaws.{accepted-sound, never-unknown}
-use Rattle.rules.proofs.FaultLaws.{FaultAt, verdict-fault, unknown-exact, fifth-unknown}
+use Rattle.rules.proofs.FaultLaws.{verdict-fault, unknown-exact, fifth-unknown}
 use Rattle.overlap.specs.Pairs.{Pair}
 use Rattle.overlap.specs.Order.{isOrder}
 use Rattle.overlap.specs.Judge.{crossing}

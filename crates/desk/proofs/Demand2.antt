@@ -3,8 +3,8 @@
 -- Assumes nothing.
 use mathlib.Core.Path.{_≡_, refl, sym, ap, subst, _∙_}
 use mathlib.Core.Logic.{_↔_}
-use mathlib.Core.Bool.{true, false}
-use mathlib.Core.List.{List, [], _∷_}
+use mathlib.Core.Bool.{false}
+use mathlib.Core.List.{List}
 use mathlib.Core.Option.{Option, none, some, Option·map, Option·some-injective, Option·none-ne-some, Option·some-ne-none}
 use Prim.Native.Nat.{ℕ, _≤_, _<_}
 use native.Mathlib.Omega.{arith}
@@ -20,7 +20,7 @@ use Rattle.rules.specs.Match.{matches, ruleAt, firstMatch, falseBlocks}
 use Rattle.rules.proofs.ActionLaws.{known-one}
 use Rattle.rules.proofs.MatchLaws.{hit, First, match-told, first-match, no-match, rules-size, rules-at}
 use Rattle.overlap.specs.Judge.{answerOf}
-use Rattle.area.specs.Shape.{deskShape}
+use Rattle.area.specs.Shape.{blocks, deskShape}
 use Rattle.index.specs.Image.{image}
 use Rattle.lookup.specs.declared.Answer.{Answer}
 use Rattle.lookup.specs.declared.Looked.{Looked}
@@ -53,7 +53,7 @@ module _ {table area header : List ℕ} {r : Looked} (t : IsTable table) (x : Is
   values = headerValues header
 
   abbrev falses : ℕ
-  falses = falseBlocks 32 8 rules values
+  falses = falseBlocks 32 blocks rules values
 
   abbrev answer : Outcome → Looked
   answer o = Found (record { falses = falses; outcome = o })
@@ -138,14 +138,14 @@ module _ {table area header : List ℕ} {r : Looked} (t : IsTable table) (x : Is
   pub unmatched-no-action : {action : Action} → NoneFits header table → Gets r action → ⊥
   unmatched-no-action none-fits g = match-some (sym (g .1 .1) ∙ lookup-none .1 none-fits .1)
 
-  pub lookup-done : (a : Answer) × (r ≡ Found a) × (a .falses ≡ falses) × (a .falses ≤ 8)
+  pub lookup-done : (a : Answer) × (r ≡ Found a) × (a .falses ≡ falses) × (a .falses ≤ blocks)
   lookup-done = go (firstMatch rules values) (match-told rules values) refl
     where
-      few : falses ≤ 8
+      few : falses ≤ blocks
       few = answer-few table (t .accepted) header
 
       go : (o : Option ℕ) → Told (hit rules values) (length rules) o → firstMatch rules values ≡ o
-          → (a : Answer) × (r ≡ Found a) × (a .falses ≡ falses) × (a .falses ≤ 8)
+          → (a : Answer) × (r ≡ Found a) × (a .falses ≡ falses) × (a .falses ≤ blocks)
       go none told e = (record { falses = falses; outcome = NoMatch }, decides none told e, refl, few)
       go (some p) told e =
           let d = decides (some p) told e in

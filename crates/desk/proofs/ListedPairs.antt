@@ -1,17 +1,16 @@
 -- Demand 2's pairs through the call: the entries that it leaves are exactly the pairs of rules that share a header of 13 bytes while neither
 -- covers the other, each once, in order.
 -- Assumes nothing.
-use mathlib.Core.Path.{_≡_, refl, sym, ap, ap₂, subst, _∙_}
+use mathlib.Core.Path.{_≡_, sym, ap, ap₂, subst, _∙_}
 use mathlib.Core.Logic.{_↔_, _⊎_, inl, inr, ⊎-elim}
 use mathlib.Core.Bool.{false}
 use mathlib.Core.List.{List, [], _∷_, _++_, List·Memᴰ}
-use Prim.Native.Nat.{ℕ, _+_, _*_, _≤_, _<_}
+use Prim.Native.Nat.{ℕ, _+_, _*_, _<_}
 use native.Mathlib.Omega.{arith}
 use lib.ListN.{length, getD, drop}
 use lib.Seq.{drop-at}
 use Rattle.bits.proofs.TestLaws.{clash, refuted}
 use Rattle.bits.proofs.MemberLaws.{place-member, member-place}
-use Rattle.rules.specs.Rule.{Rule}
 use Rattle.rules.specs.Match.{ruleAt}
 use Rattle.rules.specs.Overlap.{covers}
 use Rattle.rules.specs.Table.{ruleCount, recordAt, rulesOf}

@@ -4,18 +4,13 @@
 use mathlib.Core.Path.{_≡_, sym, ap, subst, _∙_}
 use mathlib.Core.Logic.{_↔_}
 use mathlib.Core.List.{List}
-use mathlib.Core.Option.{Option, none, some}
 use Prim.Native.Nat.{ℕ}
 use lib.ListN.{length, take}
-use Rattle.bits.specs.Number.{Bytes}
 use Rattle.rules.specs.declared.Action.{Action}
-use Rattle.rules.specs.declared.Decoded.{Decoded}
-use Rattle.rules.specs.declared.Decoded.the-variants.{Known}
 use Rattle.rules.specs.Rule.{Rule}
 use Rattle.rules.specs.Table.{rulesOf}
 use Rattle.rules.specs.Header.{headerValues}
 use Rattle.rules.proofs.MatchLaws.{rules-size}
-use Rattle.overlap.specs.Order.{movedTable}
 use Rattle.overlap.specs.Judge as judge
 use Rattle.overlap.proofs.MoveLaws.{move-same-answer}
 use Rattle.overlap.proofs.TableMoves.{moved-rules, moved-accepted, moved-bytes}

@@ -4,9 +4,9 @@
 use mathlib.Core.Path.{_≡_, refl, sym, ap, ap₂, subst, _∙_}
 use mathlib.Core.Logic.{_⊎_}
 use mathlib.Core.Bool.{true}
-use mathlib.Core.List.{List, [], _∷_, _++_, head-eq-of-cons-eq}
+use mathlib.Core.List.{List, _++_, head-eq-of-cons-eq}
 use mathlib.Core.Option.{Option, none, some}
-use Prim.Native.Nat.{ℕ, _*_, _≤_, _<_}
+use Prim.Native.Nat.{ℕ, _≤_, _<_}
 use native.Mathlib.Omega.{arith}
 use lib.Dec.{leb}
 use lib.ListN.{length, getD, drop, length-append}
@@ -30,7 +30,6 @@ use Rattle.rules.proofs.MatchLaws.{rules-size, rules-at}
 use Rattle.rules.proofs.HeaderLaws.{lowest-reads}
 use Rattle.rules.proofs.OverlapLaws.{lowest-shared-fits, lowest-shared-lowest}
 use Rattle.overlap.specs.Pairs.{Pair}
-use Rattle.overlap.specs.Order.{newPlace}
 use Rattle.overlap.specs.Judge as judge
 use Rattle.overlap.proofs.SortedLaws.{pair}
 use Rattle.overlap.proofs.JudgeLaws.{clash-exact, Crossed, crossing-exact}

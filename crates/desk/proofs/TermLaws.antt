@@ -10,7 +10,7 @@ use Rattle.bits.specs.Number.{Bytes}
 use Rattle.bits.specs.Path.{leads}
 use Rattle.bits.specs.Tests.{all}
 use Rattle.rules.specs.Field.{Field, fields}
-use Rattle.rules.specs.Rule.{Rule, ruleOf}
+use Rattle.rules.specs.Rule.{ruleOf}
 use Rattle.rules.specs.Header.{headerValues}
 use Rattle.rules.specs.Match.{matches, ruleAt}
 use Rattle.rules.specs.Overlap.{share, covers}

@@ -16,6 +16,7 @@ use Rattle.rules.specs.Header.{headerValues, headerBytes}
 use Rattle.rules.specs.Match.{falseBlocks}
 use Rattle.rules.specs.Refusal.{values}
 use Rattle.rules.specs.Table.{ruleCount, recordAt, rulesOf}
+use Rattle.area.specs.Shape.{blocks}
 use Rattle.overlap.specs.Order.{movedTable, inPlace, wayBack, andThen}
 use Rattle.lookup.specs.declared.Answer.{Answer}
 use Rattle.lookup.specs.declared.Looked.{Looked}
@@ -91,7 +92,7 @@ pub record Demand2 : Type 0 where
   pub pairs-beyond : {table list after : List ℕ} {count : ℕ} → Pairs table list (Listed count) after → drop (2 * count) after ≡ drop (2 * count) list
   -- "False blocks are what table and header fix": there are at most 8, and no refusal comes
   pub lookup-done : {table area header : List ℕ} {r : Looked} → IsTable table → IsIndex table area → IsHeader header → Looks table area header r
-      → (a : Answer) × (r ≡ Found a) × (a .falses ≡ falseBlocks 32 8 (rulesOf table) (headerValues header)) × (a .falses ≤ 8)
+      → (a : Answer) × (r ≡ Found a) × (a .falses ≡ falseBlocks 32 blocks (rulesOf table) (headerValues header)) × (a .falses ≤ blocks)
 
 pub record Demand3 : Type 0 where
   -- "Accepted table, any order of its places, an output with room: the move is allowed .. exactly when no two rules that share a header and

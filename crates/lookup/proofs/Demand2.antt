@@ -1,8 +1,8 @@
--- Lookup over an area that holds the index of an accepted table: what the steps say is what table and header fix, it is a done answer, and it
--- counts at most 8 false blocks.
+-- Lookup over an area that holds the index of an accepted table: what the steps say is what table and header fix, a match with its known
+-- action or none, and at most 8 false blocks.
 -- Assumes nothing.
 use mathlib.Core.Path.{_≡_, refl, sym, ap, ap₂, _∙_, fun-ext}
-use mathlib.Core.Bool.{Bool, false, not, _&&_, true≢false}
+use mathlib.Core.Bool.{Bool, false, not, _&&_}
 use mathlib.Core.List.{List, [], _∷_, map}
 use mathlib.Core.Option.{Option, none, some}
 use Prim.Native.Nat.{ℕ, _*_, _/_, _%_, _≤_, _<_}
@@ -12,19 +12,17 @@ use lib.ListN.{length, take, length-map}
 use borrow.Author.Tests.{eq-eqb, le-ltb, lt-ltb}
 use Rattle.bits.specs.Number.{Bytes}
 use Rattle.bits.specs.Tests.{any, all, upFrom, lowest, count}
-use Rattle.bits.proofs.TestLaws.{Lowest, Told, lowest-told, count-le, lowest-agree}
+use Rattle.bits.proofs.TestLaws.{Lowest, Told, count-le, lowest-agree}
 use Rattle.bits.proofs.ListLaws.{all-map}
 use Rattle.bits.proofs.EachLaws.{getD-map, all-agree}
 use Rattle.rules.specs.declared.Action.{Action}
-use Rattle.rules.specs.declared.Decoded.{Decoded}
-use Rattle.rules.specs.declared.Decoded.the-variants.{Known, Unknown}
-use Rattle.rules.specs.Action.{actionIn, isUnknown}
+use Rattle.rules.specs.declared.Decoded.the-variants.{Known}
 use Rattle.rules.specs.Rule.{Rule, ruleOf}
-use Rattle.rules.specs.Table.{recordSize, mostRules, ruleCount, recordAt, rulesOf, unknownAction, Accepted}
+use Rattle.rules.specs.Table.{recordSize, mostRules, ruleCount, recordAt, rulesOf, Accepted}
 use Rattle.rules.specs.Header.{headerSize, headerValues}
 use Rattle.rules.specs.Match.{matches, noRule, ruleAt, firstMatch, matchesIn, blockOf, deceives, blocksBefore, falseBlocks}
-use Rattle.rules.proofs.TableLaws.{faultless, accepted-sound}
-use Rattle.rules.proofs.MatchLaws.{rules-size, rules-at}
+use Rattle.rules.proofs.TableLaws.{accepted-sound, sound-known}
+use Rattle.rules.proofs.MatchLaws.{match-told, rules-size, rules-at}
 use Rattle.area.specs.Shape.{blocks, deskShape}
 use Rattle.index.specs.Key.{Key, hit}
 use Rattle.index.specs.Image.{image}
@@ -52,17 +50,12 @@ pub winner-first : (rules : List Rule) (values : List ℕ) → winner (map (matc
 unfolding firstMatch
 winner-first rules values = winner-map (matches values) rules
 
--- what the first match is, as a fact
-pub first-told : (rules : List Rule) (values : List ℕ) → Told (λ place. matches values (ruleAt rules place)) (length rules) (firstMatch rules values)
-unfolding firstMatch
-first-told rules values = lowest-told (λ place. matches values (ruleAt rules place)) (length rules)
-
 -- ---- the false blocks are at most the blocks
 
 before-le : (size blocks : ℕ) (rules : List Rule) (values : List ℕ) → 0 < size → length rules ≤ blocks * size
     → blocksBefore size blocks (firstMatch rules values) ≤ blocks
 unfolding blocksBefore
-before-le size blocks rules values pos fits = go (firstMatch rules values) (first-told rules values)
+before-le size blocks rules values pos fits = go (firstMatch rules values) (match-told rules values)
   where
     go : (o : Option ℕ) → Told (λ place. matches values (ruleAt rules place)) (length rules) o → blocksBefore size blocks o ≤ blocks
     go none t = omega arith
@@ -143,7 +136,7 @@ module _ (table : List ℕ) (b : Bytes table) (sound : Accepted table) (header :
         look-steps table area header (eq-eqb (length header) headerSize right) (eq-eqb (length table % recordSize) 0 (s .whole))
         (le-ltb mostRules (ruleCount table) (s .few)) (le-ltb (length area) leastWords enough)
         ∙ ap (stepsSaid table) steps-found
-        ∙ said-same (firstMatch rules values) (first-told rules values) (falseBlocks 32 blocks rules values)
+        ∙ said-same (firstMatch rules values) (match-told rules values) (falseBlocks 32 blocks rules values)
 
 -- over the index of an accepted table, unchanged, the steps say what table and header fix
 pub demand-2 : (table : List ℕ) → Bytes table → Accepted table → (header : List ℕ) → Bytes header → length header ≡ 13 → (area : List ℕ)
@@ -152,16 +145,10 @@ demand-2 = look-answer
 
 -- ---- the answer is done
 
-known : (d : Decoded) → isUnknown d ≡ false → (a : Action) × (d ≡ Known a)
-unfolding isUnknown
-known (Known a) e = (a, refl)
-known Unknown e = absurd (true≢false e)
-
 -- the action of an accepted table's rule is known
 rule-known : (table : List ℕ) → Accepted table → (place : ℕ) → place < ruleCount table → (a : Action) × (ruleAt (rulesOf table) place .action ≡ Known a)
-unfolding unknownAction ruleOf
-rule-known table sound place h =
-    rw (rules-at table place h) (known (actionIn (recordAt table place)) (faultless (recordAt table place) (accepted-sound table sound .faultless place h) .known))
+unfolding ruleOf
+rule-known table sound place h = rw (rules-at table place h) (sound-known (recordAt table place) (accepted-sound table sound .faultless place h))
 
 module _ (table : List ℕ) (sound : Accepted table) (header : List ℕ) where
   -- the number of false blocks
@@ -179,28 +166,10 @@ module _ (table : List ℕ) (sound : Accepted table) (header : List ℕ) where
   unfolding answerSaid rulesAnswer winnerSaid matchSaid
   answer-match place e =
       let low : Lowest (λ place. matches (headerValues header) (ruleAt (rulesOf table) place)) (length (rulesOf table)) place =
-      rw e at (first-told (rulesOf table) (headerValues header)) in
+      rw e at (match-told (rulesOf table) (headerValues header)) in
       let act = rule-known table sound place (omega (arith, low .below, rules-size table)) in
       (act .0, act .1, ap (winnerSaid (rulesOf table) falses) e ∙ ap (matchSaid falses place) (act .1))
 
-  -- the number is 0, and the first value is the number of false blocks
-  pub answer-done : (vs : List ℕ) × (answerSaid table header ≡ 0 ∷ falses ∷ vs)
-  answer-done = go (firstMatch (rulesOf table) (headerValues header)) refl
-    where
-      go : (o : Option ℕ) → firstMatch (rulesOf table) (headerValues header) ≡ o → (vs : List ℕ) × (answerSaid table header ≡ 0 ∷ falses ∷ vs)
-      go none e = (0 ∷ [], answer-none e)
-      go (some place) e =
-          let m = answer-match place e in
-          (1 ∷ place ∷ actionValues (m .0), m .2)
-
-  -- which is at most 8
+  -- the false blocks are at most 8
   pub answer-few : falses ≤ blocks
   answer-few = falses-le 32 blocks (rulesOf table) (headerValues header) (omega arith) (omega (arith, rules-size table, accepted-sound table sound .few))
-
--- so over the index neither 9 nor 5 comes
-pub demand-2-done : (table : List ℕ) → Bytes table → Accepted table → (header : List ℕ) → Bytes header → length header ≡ 13 → (area : List ℕ)
-    → take (need deskShape (rulesOf table)) area ≡ image deskShape (rulesOf table)
-    → (vs : List ℕ) × (lookSaid table area header ≡ 0 ∷ falseBlocks 32 blocks (rulesOf table) (headerValues header) ∷ vs) × (falseBlocks 32 blocks (rulesOf table) (headerValues header) ≤ blocks)
-demand-2-done table b sound header c right area held =
-    let done = answer-done table sound header in
-    (done .0, demand-2 table b sound header c right area held ∙ done .1, answer-few table sound header)
