@@ -30,8 +30,8 @@ digit-of (suc zero) h = refl
 digit-of (suc (suc x)) h = absurd (omega arith)
 
 -- a number below 2 is a bit's
-pub some-bit : (x : ℕ) → x < 2 → (b : Bool) × (x ≡ digit b)
-some-bit x h = (eqb x 1, sym (digit-of x h))
+pub digit-some : (x : ℕ) → x < 2 → (b : Bool) × (x ≡ digit b)
+digit-some x h = (eqb x 1, sym (digit-of x h))
 
 -- ---- a value's bits from the top
 

@@ -9,7 +9,7 @@ use native.Mathlib.Omega.{arith}
 use lib.ListN.{length, getD}
 use Rattle.bits.specs.Word.{digit}
 use Rattle.bits.proofs.TestLaws.{decided, less}
-use Rattle.bits.proofs.DigitLaws.{some-bit}
+use Rattle.bits.proofs.DigitLaws.{digit-some}
 use Rattle.rules.specs.Rule.{Rule}
 use Rattle.area.specs.Shape.{recordWords}
 use Rattle.area.specs.Hand.{childWord}
@@ -52,11 +52,11 @@ module _ (n : ℕ) (rules : List Rule) (marks : List Mark) (a₀ a : List ℕ) (
   below i b h hb = ⊎-elim (λ (z : childWord a i b < 1). omega arith) inside (less (childWord a i b) 1)
     where
       inside : 1 ≤ childWord a i b → childWord a i b < count
-      inside l = let c = some-bit b hb in rw (c .1) (kid-stands i h (c .0) (rw (c .1) at l) .inside)
+      inside l = let c = digit-some b hb in rw (c .1) (kid-stands i h (c .0) (rw (c .1) at l) .inside)
 
   up : (i b : ℕ) → i < count → b < 2 → 0 < childWord a i b → i < childWord a i b
   up i b h hb l =
-      let c = some-bit b hb in
+      let c = digit-some b hb in
       let stands = kid-stands i h (c .0) (rw (c .1) at l) in
       let parent = keys-parented 5 rules (childWord a i (digit (c .0))) (key i) (c .0) stands in
       let same : i ≡ parent .0 = keys-once 5 rules i (parent .0) (key i) (stands-here ks i h) (parent .2) in
@@ -64,8 +64,8 @@ module _ (n : ℕ) (rules : List Rule) (marks : List Mark) (a₀ a : List ℕ) (
 
   one : (i b j d : ℕ) → i < count → b < 2 → j < count → d < 2 → 0 < childWord a i b → childWord a i b ≡ childWord a j d → (i ≡ j) × (b ≡ d)
   one i b j d hi hb hj hd l e =
-      let c = some-bit b hb in
-      let g = some-bit d hd in
+      let c = digit-some b hb in
+      let g = digit-some d hd in
       let here = kid-stands i hi (c .0) (rw (c .1) at l) in
       let there = kid-stands j hj (g .0) (subst (λ (x : ℕ). 0 < childWord a j x) (g .1) (subst (λ (x : ℕ). 0 < x) e l)) in
       let place : childWord a i (digit (c .0)) ≡ childWord a j (digit (g .0)) =

@@ -9,7 +9,7 @@ use native.Mathlib.Omega.{arith}
 use lib.Bits.{bitOr, or-comm}
 use lib.ListN.{length, getD}
 use Rattle.bits.specs.Word.{digit}
-use Rattle.bits.proofs.DigitLaws.{digit-small, some-bit}
+use Rattle.bits.proofs.DigitLaws.{digit-small, digit-some}
 use Rattle.rules.specs.Rule.{Rule}
 use Rattle.area.specs.Shape.{blocks, deskShape, recordWords}
 use Rattle.area.specs.Hand.{vectorWord, childWord, handed}
@@ -50,7 +50,7 @@ module _ (n : ℕ) (rules : List Rule) (marks : List Mark) (a₀ a : List ℕ) (
   root-vector i f stands v h =
       sweep-root a count trees i v h
       (λ m b hm hb l e.
-      let c = some-bit b hb in
+      let c = digit-some b hb in
       let kid = kid-stands n rules marks a₀ a recorded room m hm (c .0) (rw (c .1) at l) in
       let here : i ≡ childWord a m (digit (c .0)) = e ∙ ap (childWord a m) (c .1) in
       further-root (key m) (c .0) f (stands-same kid (subst (λ (x : ℕ). Stands ks x (at f [])) here stands)))
