@@ -34,8 +34,8 @@ pub demand-2 : page.Demand2
 demand-2 = record {
   lookup-match = two.lookup-match;
   lookup-none = two.lookup-none;
-  pairs-exact = λ t p. pairs.pairs-exact p t;
-  pairs-in-order = pairs.pairs-in-order;
+  pairs-listed = λ t p. pairs.pairs-listed p t;
+  pairs-only = pairs.pairs-only;
   pairs-beyond = pairs.pairs-beyond;
   lookup-done = two.lookup-done;
 }

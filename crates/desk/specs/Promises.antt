@@ -32,7 +32,7 @@ use Rattle.desk.specs.LookCall.{Looks}
 use Rattle.desk.specs.PairsCall.{Pairs}
 use Rattle.desk.specs.JudgeCall.{Judges}
 use Rattle.desk.specs.Show.{Shows}
-use Rattle.desk.specs.Terms.{IsHeader, IsTable, NoneFits, Wins, CutsAcross, IsOrder, NoneTurned, NoAction, UnknownAt, IsIndex, Matched, Gets, Unmatched, ShownBy}
+use Rattle.desk.specs.Terms.{IsHeader, IsTable, NoneFits, Wins, ListsPairs, IsOrder, NoneTurned, NoAction, UnknownAt, IsIndex, Matched, Gets, Unmatched, ShownBy}
 
 pub record Demand1 : Type 0 where
   -- "Whatever bytes come in, the desk ends, stays inside the memory that it was lent and answers by name." No call has a `requires`, and
@@ -81,14 +81,10 @@ pub record Demand2 : Type 0 where
   -- "or none exactly when no rule matches"
   pub lookup-none : {table area header : List ℕ} {r : Looked} → IsTable table → IsIndex table area → IsHeader header → Looks table area header r
       → Unmatched r ↔ NoneFits header table
-  -- "Pairs listed exactly": places i and j are a pair of the list
-  pub pairs-exact : {table list after : List ℕ} {count : ℕ} → IsTable table → Pairs table list (Listed count) after → (i j : ℕ)
-      → ((k : ℕ) × (k < count) × (getD after (2 * k) 0 ≡ i) × (getD after (2 * k + 1) 0 ≡ j))
-      ↔ ((i < j) × (j < ruleCount table) × CutsAcross (recordAt table i) (recordAt table j))
-  -- "once, in order": a later pair's lower place is higher, or the same with a higher second one; entries after the pairs stay
-  pub pairs-in-order : {table list after : List ℕ} {count : ℕ} → Pairs table list (Listed count) after → (k l : ℕ) → k < l → l < count
-      → (getD after (2 * k) 0 < getD after (2 * l) 0)
-      ⊎ ((getD after (2 * k) 0 ≡ getD after (2 * l) 0) × (getD after (2 * k + 1) 0 < getD after (2 * l + 1) 0))
+  -- "Pairs listed exactly, once, in order": no two lists are so, and entries after the pairs stay
+  pub pairs-listed : {table list after : List ℕ} {count : ℕ} → IsTable table → Pairs table list (Listed count) after → ListsPairs table after count
+  pub pairs-only : {table one other : List ℕ} {m n : ℕ} → ListsPairs table one m → ListsPairs table other n
+      → (m ≡ n) × ((k : ℕ) → k < m → (getD one (2 * k) 0 ≡ getD other (2 * k) 0) × (getD one (2 * k + 1) 0 ≡ getD other (2 * k + 1) 0))
   pub pairs-beyond : {table list after : List ℕ} {count : ℕ} → Pairs table list (Listed count) after → drop (2 * count) after ≡ drop (2 * count) list
   -- "False blocks are what table and header fix": there are at most 8, and no refusal comes
   pub lookup-done : {table area header : List ℕ} {r : Looked} → IsTable table → IsIndex table area → IsHeader header → Looks table area header r

@@ -1,10 +1,10 @@
 -- The words of the three demands, said of bytes and of what the calls answer. The page of promises, Promises.antt, is written in them.
 -- Assumes nothing.
 use mathlib.Core.Path.{_≡_}
-use mathlib.Core.Logic.{_⊎_}
+use mathlib.Core.Logic.{_↔_, _⊎_}
 use mathlib.Core.Bool.{true}
 use mathlib.Core.List.{List, _++_}
-use Prim.Native.Nat.{ℕ, _%_, _≤_, _<_}
+use Prim.Native.Nat.{ℕ, _+_, _*_, _%_, _≤_, _<_}
 use lib.Dec.{leb}
 use lib.ListN.{length, getD, take}
 use Rattle.bits.specs.Number.{Bytes}
@@ -73,6 +73,14 @@ pub record CutsAcross (a b : List ℕ) : Type 0 where
   pub share : Share a b
   pub not-over : Covers a b → ⊥
   pub not-under : Covers b a → ⊥
+
+-- the first pairs of a list, so many, are "listed exactly, once, in order": places i and j are one of them when their rules cut across each
+-- other; and a later pair has a higher lower place, or the same with a higher second one
+pub record ListsPairs (table list : List ℕ) (count : ℕ) : Type 0 where
+  pub exact : (i j : ℕ) → ((k : ℕ) × (k < count) × (getD list (2 * k) 0 ≡ i) × (getD list (2 * k + 1) 0 ≡ j))
+      ↔ ((i < j) × (j < ruleCount table) × CutsAcross (recordAt table i) (recordAt table j))
+  pub in-order : (k l : ℕ) → k < l → l < count → (getD list (2 * k) 0 < getD list (2 * l) 0)
+      ⊎ ((getD list (2 * k) 0 ≡ getD list (2 * l) 0) × (getD list (2 * k + 1) 0 < getD list (2 * l + 1) 0))
 
 -- "shares a header and differs in action"
 pub record Clash (a b : List ℕ) : Type 0 where

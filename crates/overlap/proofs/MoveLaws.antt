@@ -1,31 +1,27 @@
--- An allowed move changes no header's action. Of a refused one, the named rules alone answer their lowest shared header differently in
--- their two orders. The order left in place is allowed, an allowed move can be undone by one, and two in a row are one.
+-- An allowed move changes no header's action. The order left in place is allowed, an allowed move can be undone by one, and two in a row are
+-- one.
 -- Assumes nothing.
 use mathlib.Core.Path.{_≡_, refl, sym, ap, _∙_}
 use mathlib.Core.Logic.{⊎-elim}
 use mathlib.Core.Bool.{true}
-use mathlib.Core.List.{List, [], _∷_}
-use mathlib.Core.Option.{Option, none, some, Option·map, Option·some-injective}
+use mathlib.Core.List.{List}
+use mathlib.Core.Option.{Option, none, some, Option·map}
 use Prim.Native.Nat.{ℕ, _<_}
 use native.Mathlib.Omega.{arith}
-use lib.Dec.{leb}
 use lib.ListN.{length, length-map}
 use lib.Seq.{ext-getD}
-use Rattle.bits.specs.Tests.{each}
 use Rattle.bits.proofs.TestLaws.{clash, less, Told, three}
 use Rattle.rules.specs.Rule.{Rule}
 use Rattle.rules.specs.Match.{matches, noRule, ruleAt, firstMatch}
-use Rattle.rules.specs.Overlap.{lowestShared}
-use Rattle.rules.proofs.OverlapLaws.{share-exact, lowest-shared-fits, lowest-shared-lowest}
-use Rattle.overlap.specs.Pairs.{Pair}
+use Rattle.rules.proofs.OverlapLaws.{share-exact}
 use Rattle.overlap.specs.Order.{isOrder, oldPlace, newPlace, moved, inPlace, wayBack, andThen}
-use Rattle.overlap.specs.Judge.{clashes, crossing, Allowed, answerOf}
+use Rattle.overlap.specs.Judge.{clashes, Allowed, answerOf}
 use Rattle.bits.proofs.EachLaws.{getD-map, map-along}
-use Rattle.rules.proofs.MatchLaws.{hit, First, match-told, first-match}
+use Rattle.rules.proofs.MatchLaws.{hit, First, match-told}
 use Rattle.overlap.proofs.SortedLaws.{pair}
 use Rattle.overlap.proofs.OrderLaws.{Order, order, new-apart}
 use Rattle.overlap.proofs.MadeOrders.{place-size, place-old, place-order, place-new, way-order, way-new, then-back, then-order, then-new}
-use Rattle.overlap.proofs.JudgeLaws.{clash-exact, clash-swap, peace-action, Kept, allowed-exact, crossing-exact}
+use Rattle.overlap.proofs.JudgeLaws.{clash-exact, clash-swap, peace-action, Kept, allowed-exact}
 
 -- ---- the moved rules
 
@@ -93,39 +89,6 @@ module _ (rules : List Rule) (o : List ℕ) (O : Order (length rules) o) (h : Li
 pub move-same-answer : (rules : List Rule) (o : List ℕ) → isOrder (length rules) o ≡ true → Allowed rules o
     → (h : List ℕ) → answerOf (moved rules o) h ≡ answerOf rules h
 move-same-answer rules o e a h = kept-answer rules o (order (length rules) o e) h (allowed-exact rules o .0 a)
-
--- ---- of a refused move
-
--- on their lowest shared header, which matches both and is the lowest such in each field, two rules alone answer differently in their two orders
-pub record Differ (a b : Rule) : Type 0 where
-  pub fits : (matches (lowestShared a b) a ≡ true) × (matches (lowestShared a b) b ≡ true)
-  pub lowest : (h : List ℕ) → matches h a ≡ true → matches h b ≡ true → each leb (lowestShared a b) h ≡ true
-  pub answers : answerOf (a ∷ b ∷ []) (lowestShared a b) ≡ answerOf (b ∷ a ∷ []) (lowestShared a b) → ⊥
-
-answer-head : (a : Rule) (rules : List Rule) (h : List ℕ) → matches h a ≡ true → answerOf (a ∷ rules) h ≡ some (a .action)
-unfolding answerOf
-answer-head a rules h e =
-    ap (Option·map (λ p. ruleAt (a ∷ rules) p .action))
-    (first-match (a ∷ rules) h 0 (record { below = omega arith; passes = e; first = λ j l. absurd (omega arith) }))
-
-pub clash-differ : (a b : Rule) → clashes a b ≡ true → Differ a b
-clash-differ a b e =
-    let c = clash-exact a b .0 e in
-    let f = lowest-shared-fits a b (c .0) in
-    record {
-      fits = f;
-      lowest = lowest-shared-lowest a b;
-      answers = λ q.
-          c .1 (Option·some-injective (a .action) (b .action)
-          (sym (answer-head a (b ∷ []) (lowestShared a b) (f .0)) ∙ q ∙ answer-head b (a ∷ []) (lowestShared a b) (f .1)));
-    }
-
-pub refused-differs : (rules : List Rule) (o : List ℕ) (p : Pair) → crossing rules o ≡ some p
-    → Differ (ruleAt rules (p .lower)) (ruleAt rules (p .higher))
-refused-differs rules o p e =
-    let c = crossing-exact rules o p .0 e in
-    clash-differ (ruleAt rules (p .lower)) (ruleAt rules (p .higher))
-    (clash-exact (ruleAt rules (p .lower)) (ruleAt rules (p .higher)) .1 (c .shares, c .differs))
 
 -- ---- the order left in place
 

@@ -1,20 +1,19 @@
--- The list of pairs: exactly the pairs of places whose rules share a header while neither covers the other, each once, in order; and no
--- other list is so.
+-- The list of pairs: exactly the pairs of places whose rules share a header while neither covers the other, each once, in order.
 -- Assumes nothing.
 use mathlib.Core.Path.{_≡_, ap}
 use mathlib.Core.Logic.{_↔_}
 use mathlib.Core.Bool.{Bool, true, false, not, _&&_}
 use mathlib.Core.List.{List, List·Memᴰ}
-use Prim.Native.Nat.{ℕ, _<_}
-use lib.ListN.{length, getD}
+use Prim.Native.Nat.{ℕ}
+use lib.ListN.{length}
 use borrow.Author.Tests.{not-true}
-use Rattle.bits.proofs.TestLaws.{clash, and-trues, and-both, refuted}
+use Rattle.bits.proofs.TestLaws.{and-trues, and-both}
 use Rattle.rules.specs.Rule.{Rule}
 use Rattle.rules.specs.Match.{matches, ruleAt}
 use Rattle.rules.specs.Overlap.{share, covers}
-use Rattle.rules.proofs.OverlapLaws.{share-exact, covers-exact}
+use Rattle.rules.proofs.OverlapLaws.{share-exact}
 use Rattle.overlap.specs.Pairs.{Pair, triangle, keep, listed, onPair, pairsOf}
-use Rattle.overlap.proofs.SortedLaws.{pair, Sorted, before-once, sorted-at, sorted-one}
+use Rattle.overlap.proofs.SortedLaws.{Sorted}
 use Rattle.overlap.proofs.TriangleLaws.{Within, triangle-exact, triangle-sorted}
 use Rattle.overlap.proofs.KeepLaws.{keep-exact, keep-sorted}
 
@@ -51,13 +50,6 @@ listed-exact a b = (
       (and-both (not (covers a b)) (not (covers b a)) (ap not (c .not-over)) (ap not (c .not-under))),
 )
 
--- where the second rule matches some header, the first does not cover it exactly when it does not match all that the second does
-pub uncovered-exact : (a b : Rule) (h : List ℕ) → matches h b ≡ true
-    → (covers a b ≡ false) ↔ (((g : List ℕ) → matches g b ≡ true → matches g a ≡ true) → ⊥)
-uncovered-exact a b h m =
-    let c = covers-exact a b (share-exact b b .1 (h, m, m)) in
-    (λ e all. clash (c .1 all) e, λ some. refuted (covers a b) (λ e. some (c .0 e)))
-
 -- ---- the list
 
 pub record Listed (rules : List Rule) (p : Pair) : Type 0 where
@@ -75,10 +67,3 @@ module _ (rules : List Rule) where
   pub pairs-sorted : Sorted (pairsOf rules)
   unfolding pairsOf
   pairs-sorted = tested-sorted listed rules
-
-  pub pairs-once : (k l : ℕ) → k < l → l < length (pairsOf rules) → getD (pairsOf rules) k (pair 0 0) ≡ getD (pairsOf rules) l (pair 0 0) → ⊥
-  pairs-once k l h g = before-once _ _ (sorted-at (pairsOf rules) (pair 0 0) pairs-sorted k l h g)
-
-  pub pairs-only : (ps : List Pair) → Sorted ps → ((p : Pair) → List·Memᴰ p ps ↔ Listed rules p) → ps ≡ pairsOf rules
-  pairs-only ps s f =
-      sorted-one ps (pairsOf rules) s pairs-sorted (λ p m. pairs-exact p .1 (f p .0 m)) (λ p m. f p .1 (pairs-exact p .0 m))

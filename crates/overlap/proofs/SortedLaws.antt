@@ -1,13 +1,13 @@
 -- Pairs in order, "sorted by the lower and then the higher place": which of two stands first, and lists in which each pair stands before all
 -- that follow. Sorted lists with the same members are one list.
 -- Assumes nothing.
-use mathlib.Core.Path.{_≡_, refl, sym, ap₂, _∙_}
+use mathlib.Core.Path.{_≡_, refl, sym, ap₂, subst, _∙_}
 use mathlib.Core.Logic.{_⊎_, inl, inr, ⊎-elim}
 use mathlib.Core.List.{List, [], _∷_, _++_, List·Memᴰ, List·Memᴰ·head, List·Memᴰ·tail, List·Memᴰ·not-nil, List·Memᴰ·cases-cons, List·Memᴰ·append-cases}
 use Prim.Native.Nat.{ℕ, zero, suc, _<_}
 use native.Mathlib.Omega.{arith}
 use lib.ListN.{length, getD}
-use Rattle.bits.proofs.MemberLaws.{place-member}
+use Rattle.bits.proofs.MemberLaws.{place-member, member-place}
 use Rattle.bits.proofs.TestLaws.{three}
 use Rattle.overlap.specs.Pairs.{Pair}
 
@@ -58,6 +58,16 @@ sorted-at [] d s k l g h = absurd (omega arith)
 sorted-at (p ∷ ps) d s k zero g h = absurd (omega arith)
 sorted-at (p ∷ ps) d s zero (suc l) g h = s .0 (getD ps l d) (place-member d ps l (omega arith))
 sorted-at (p ∷ ps) d s (suc k) (suc l) g h = sorted-at ps d (s .1) k l (omega arith) (omega arith)
+
+-- and the other way round
+pub at-sorted : (ps : List Pair) (d : Pair) → ((k l : ℕ) → k < l → l < length ps → Before (getD ps k d) (getD ps l d)) → Sorted ps
+at-sorted [] d before = tt
+at-sorted (p ∷ ps) d before = (
+  λ q m.
+      let there = member-place d ps m in
+      subst (Before p) (there .2) (before 0 (suc (there .0)) (omega arith) (omega (arith, there .1))),
+  at-sorted ps d (λ k l h g. before (suc k) (suc l) (omega arith) (omega arith)),
+)
 
 -- sorted lists with the same members are one list
 heads : (p q : Pair) (ps qs : List Pair) → Sorted (p ∷ ps) → Sorted (q ∷ qs) → List·Memᴰ p (q ∷ qs) → List·Memᴰ q (p ∷ ps) → p ≡ q

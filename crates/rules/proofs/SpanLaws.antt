@@ -74,6 +74,3 @@ has-within w v l x h hv clean e =
     let all : l + (w - l) ≡ w = omega arith in
     let few : x / 2 ^ k < 2 ^ l = rw (← in-quotient w v l x h clean e) (shr-lt l k (rw all hv)) in
     rw (← pow-add 2 l k, all) at (div-lt-iff-lt-mul (pow-pos k) .0 few)
-
-pub span-within : (w v l : ℕ) → l ≤ w → v < 2 ^ w → stray w v l ≡ false → spanOf w v l .high < 2 ^ w
-span-within w v l h hv clean = has-within w v l (spanOf w v l .high) h hv clean (ends-in (spanOf w v l) v (own-in w v l) .1)
