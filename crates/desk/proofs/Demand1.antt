@@ -3,25 +3,20 @@
 -- Assumes nothing.
 use mathlib.Core.Path.{_≡_, sym, ap, subst, _∙_}
 use mathlib.Core.Logic.{_↔_}
-use mathlib.Core.Bool.{Bool, true, false, cond, true≢false}
+use mathlib.Core.Bool.{true≢false}
 use mathlib.Core.List.{List, [], _∷_}
-use mathlib.Core.Option.{Option, none, some}
 use Prim.Native.Nat.{ℕ, zero, suc, _<_}
 use native.Mathlib.Omega.{arith}
-use lib.Dec.{ltb}
-use lib.ListN.{length, getD}
+use lib.ListN.{getD}
 use Rattle.rules.specs.declared.Action.{Action}
 use Rattle.rules.specs.declared.Refusal.{Refusal}
 use Rattle.rules.specs.declared.Refusal.the-variants.{UnknownAction}
 use Rattle.rules.specs.declared.Decoded.the-variants.{Known}
 use Rattle.rules.specs.Action.{actionIn, isUnknown}
 use Rattle.rules.specs.Refusal.{said, firstRefusal}
-use Rattle.rules.specs.Rule.{Rule}
 use Rattle.rules.specs.Table.{ruleCount, recordAt, rulesOf, verdict, Accepted}
 use Rattle.rules.proofs.TableLaws.{accepted-sound, never-unknown}
 use Rattle.rules.proofs.FaultLaws.{verdict-fault, unknown-exact, fifth-unknown}
-use Rattle.overlap.specs.Pairs.{Pair}
-use Rattle.overlap.specs.Order.{isOrder}
 use Rattle.overlap.specs.Judge.{crossing}
 use Rattle.lookup.specs.declared.Looked.{Looked}
 use Rattle.lookup.proofs.AnsweredLaws.{look-carries}
@@ -34,6 +29,7 @@ use Rattle.desk.specs.LookCall.{Looks}
 use Rattle.desk.specs.PairsCall.{pairedSaid, pairCount, pairsSaid, pairsLeft, Pairs}
 use Rattle.desk.specs.JudgeCall.{judgedSaid, orderSaid, outputSaid, crossingSaid, judgeSaid, judgeLeft, Judges}
 use Rattle.desk.specs.Terms.{NoAction, UnknownAt, Matched}
+use Rattle.desk.proofs.SaidNumbers.{Never, first-never, room-never, order-never, output-never, crossing-never}
 use Rattle.desk.proofs.LentLaws.{lent-refused, done-accepted}
 use Rattle.desk.proofs.BuildLaws.{build-refused}
 use Rattle.desk.proofs.PairsLaws.{pairs-refused}
@@ -55,45 +51,6 @@ unfolding judgedSaid judgeLeft
 judge-untouched {table} {order} {output} {after} {why} j = j .lent ∙ sym (lent-refused why (judgeSaid table order output) _ output (sym (j .answer)) .1)
 
 -- ---- refusal 5
-
--- a number that is not the first of what is said
-abbrev Never : ℕ → List ℕ → Type 0
-Never n says = getD says 0 0 ≡ n → ⊥
-
-first-never : (n : ℕ) (a b : List ℕ) → Never n a → Never n b → Never n (firstRefusal a b)
-unfolding firstRefusal
-first-never n [] b p q = q
-first-never n (zero ∷ vs) b p q = q
-first-never n (suc m ∷ vs) b p q = p
-
-room-never : (short needed : ℕ) (lent : List ℕ) (value : ℕ) → (short ≡ 5 → ⊥) → Never 5 (roomSaid short needed lent value)
-unfolding roomSaid
-room-never short needed lent value apart = go (ltb (length lent) needed)
-  where
-    go : (b : Bool) → Never 5 (cond b (short ∷ []) (0 ∷ value ∷ []))
-    go true e = apart e
-    go false e = omega arith
-
-order-never : (table order : List ℕ) → Never 5 (orderSaid table order)
-unfolding orderSaid
-order-never table order = go (isOrder (ruleCount table) order)
-  where
-    go : (b : Bool) → Never 5 (cond b (0 ∷ []) (11 ∷ []))
-    go true e = omega arith
-    go false e = omega arith
-
-output-never : (table output : List ℕ) → Never 5 (outputSaid table output)
-unfolding outputSaid
-output-never table output = go (ltb (length output) (length table))
-  where
-    go : (b : Bool) → Never 5 (cond b (12 ∷ []) (0 ∷ []))
-    go true e = omega arith
-    go false e = omega arith
-
-crossing-never : (rules : List Rule) (o : Option Pair) → Never 5 (crossingSaid rules o)
-unfolding crossingSaid
-crossing-never rules none e = omega arith
-crossing-never rules (some p) e = omega arith
 
 -- where nothing after the verdict says 5, it is the verdict's
 module _ (table : List ℕ) (place : ℕ) where
@@ -125,7 +82,7 @@ pub build-unknown : {table area after : List ℕ} {r : built.Built} → Builds t
 unfolding builtSaid buildSaid
 build-unknown {table} {area} b place = (
   λ e. unknown-at table place (roomSaid 7 (wordsNeeded table) area (wordsNeeded table))
-      (room-never 7 (wordsNeeded table) area (wordsNeeded table) (λ q. omega arith)) (sym (b .answer) ∙ ap builtSaid e),
+      (room-never 5 7 (wordsNeeded table) area (wordsNeeded table) (λ q. omega arith) (λ q. omega arith)) (sym (b .answer) ∙ ap builtSaid e),
   λ u. build-one b (build-refused table area (UnknownAction place) (at-unknown table place u)) .0,
 )
 
@@ -133,7 +90,7 @@ pub pairs-unknown : {table list after : List ℕ} {r : paired.Paired} → Pairs 
     → (place : ℕ) → (r ≡ paired.the-variants.Refused (UnknownAction place)) ↔ UnknownAt table place
 unfolding pairedSaid pairsSaid
 pairs-unknown {table} {list} p place = (
-  λ e. unknown-at table place _ (room-never 10 _ list (pairCount table) (λ q. omega arith)) (sym (p .answer) ∙ ap pairedSaid e),
+  λ e. unknown-at table place _ (room-never 5 10 _ list (pairCount table) (λ q. omega arith) (λ q. omega arith)) (sym (p .answer) ∙ ap pairedSaid e),
   λ u. pairs-one p (pairs-refused table list (UnknownAction place) (at-unknown table place u)) .0,
 )
 
@@ -144,8 +101,9 @@ judge-unknown {table} {order} {output} j place =
     let last = crossingSaid (rulesOf table) (crossing (rulesOf table) order) in
     let later = firstRefusal (outputSaid table output) last in (
       λ e. unknown-at table place (firstRefusal (orderSaid table order) later)
-          (first-never 5 (orderSaid table order) later (order-never table order)
-          (first-never 5 (outputSaid table output) last (output-never table output) (crossing-never (rulesOf table) (crossing (rulesOf table) order))))
+          (first-never 5 (orderSaid table order) later (order-never 5 table order (λ q. omega arith) (λ q. omega arith))
+          (first-never 5 (outputSaid table output) last (output-never 5 table output (λ q. omega arith) (λ q. omega arith))
+          (crossing-never 5 (rulesOf table) (crossing (rulesOf table) order) (λ q. omega arith) (λ q. omega arith))))
           (sym (j .answer) ∙ ap judgedSaid e),
       λ u. judge-one j (judge-refused table order output (UnknownAction place) (at-unknown table place u)) .0,
     )

@@ -25,17 +25,18 @@ use Rattle.overlap.specs.Order.{isOrder, newPlace, moved, movedTable, inPlace, 
 use Rattle.overlap.specs.Judge as judge
 use Rattle.overlap.specs.Obstacle.{pairTold, foundTold, crossingTold}
 use Rattle.overlap.proofs.SortedLaws.{pair}
-use Rattle.overlap.proofs.OrderLaws.{order-exact, order}
+use Rattle.overlap.proofs.OrderLaws.{order}
 use Rattle.overlap.proofs.MadeOrders.{way-order, place-order}
 use Rattle.overlap.proofs.JudgeLaws.{Kept, allowed-exact, crossing-exact}
 use Rattle.overlap.proofs.MoveLaws.{in-place-allowed, undo, compose}
-use Rattle.overlap.proofs.TableMoves.{moved-count, moved-length, moved-rules, moved-accepted, accepted-whole, bytes-in-place, bytes-undo, bytes-compose}
+use Rattle.overlap.proofs.TableMoves.{moved-count, moved-length, moved-rules, moved-accepted, moved-bytes, accepted-whole, bytes-in-place, bytes-undo, bytes-compose}
 use Rattle.desk.specs.declared.Judged as judged
 use Rattle.desk.specs.declared.Judged.the-variants.{Allowed}
 use Rattle.desk.specs.JudgeCall.{judgedSaid, orderSaid, outputSaid, crossingSaid, judgeSaid, judgeLeft, Judges}
 use Rattle.desk.specs.Terms.{IsTable, IsOrder, NoneTurned}
 use Rattle.desk.proofs.TermLaws.{clash-at}
 use Rattle.desk.proofs.LentLaws.{first-last, done-accepted, done-written}
+use Rattle.desk.proofs.Reasons.{is-order}
 use Rattle.desk.proofs.JudgeLaws.{judge-crossed, judge-allowed}
 use Rattle.desk.proofs.Determined.{judge-one}
 
@@ -72,19 +73,19 @@ module _ (table order output after : List ℕ) (j : Judges table order output ju
       let eleven : _≡_ {A = List ℕ} (11 ∷ []) (0 ∷ []) = rw e at past-table in
       omega (arith, head-eq-of-cons-eq eleven)
 
-  is-order : isOrder (ruleCount table) order ≡ true
-  is-order = ⊎-elim (λ e. e) (λ e. absurd (not-eleven e)) (decided (isOrder (ruleCount table) order))
+  accepted-order : isOrder (ruleCount table) order ≡ true
+  accepted-order = ⊎-elim (λ e. e) (λ e. absurd (not-eleven e)) (decided (isOrder (ruleCount table) order))
 
   pub judged-moved : Moved table order output after
   unfolding judgeSaid judgeLeft
   judged-moved =
       let ok = done-accepted table (firstRefusal (orderSaid table order) (firstRefusal (outputSaid table output) last)) [] says in
       let written = movedTable table order ++ drop (length table) output in
-      let size = moved-length table order is-order (accepted-whole table ok) in
+      let size = moved-length table order accepted-order (accepted-whole table ok) in
       let left : after ≡ written = j .lent ∙ done-written (judgeSaid table order output) written output [] says in
       record {
         accepted = ok;
-        ordered = is-order;
+        ordered = accepted-order;
         allowed = no-crossing (judge.crossing (rulesOf table) order)
             (first-last (outputSaid table output) last [] (first-last (orderSaid table order) (firstRefusal (outputSaid table output) last) [] past-table));
         written = ap (take (length table)) left ∙ take-at (movedTable table order) (drop (length table) output) (length table) size;
@@ -98,13 +99,20 @@ judge-writes {table} {order} {output} {after} j =
     let m = judged-moved table order output after j in
     (m .written, m .beyond)
 
+-- which is accepted
+pub judge-accepted : {table order output after : List ℕ} → IsTable table → Judges table order output Allowed after → IsTable (take (length table) after)
+judge-accepted {table} {order} {output} {after} t j =
+    let m = judged-moved table order output after j in
+    subst IsTable (sym (m .written))
+    (record { bytes = moved-bytes table order (t .bytes); accepted = moved-accepted table order (m .ordered) (m .accepted) })
+
 -- ---- what judge answers to an order, with room for the table
 
-module _ {table o output : List ℕ} (ok : Accepted table) (is-order : isOrder (ruleCount table) o ≡ true) (room : length table ≤ length output)
+module _ {table o output : List ℕ} (ok : Accepted table) (ordered : isOrder (ruleCount table) o ≡ true) (room : length table ≤ length output)
     {r : judged.Judged} {after : List ℕ} (j : Judges table o output r after) where
   allowed-judged : judge.Allowed (rulesOf table) o → r ≡ Allowed
   unfolding foundTold
-  allowed-judged a = judge-one j (judge-allowed table o output ok is-order room (sym (ap (foundTold (rulesOf table)) a))) .0
+  allowed-judged a = judge-one j (judge-allowed table o output ok ordered room (sym (ap (foundTold (rulesOf table)) a))) .0
 
   -- the pair that stands in the way, with its lowest shared header
   crossed-judged : (p : Pair) → judge.crossing (rulesOf table) o ≡ some p → (c : Crossing) × (r ≡ judged.the-variants.Refused (NotAllowed c))
@@ -121,11 +129,7 @@ module _ {table o output : List ℕ} (ok : Accepted table) (is-order : isOrder (
       let told : crossingTold c ≡ foundTold (rulesOf table) (judge.crossing (rulesOf table) o) =
       ap (λ (vs : List ℕ). p .lower ∷ p .higher ∷ vs) shown ∙ sym (ap (foundTold (rulesOf table)) e)
       in
-      (c, judge-one j (judge-crossed table o output ok is-order room c told) .0)
-
--- an order of the places is one that is not refused
-pub ordered : {table o : List ℕ} → IsOrder table o → isOrder (ruleCount table) o ≡ true
-ordered {table} {o} x = order-exact (ruleCount table) o .1 (x .size, record { small = x .below; differ = x .apart })
+      (c, judge-one j (judge-crossed table o output ok ordered room c told) .0)
 
 -- two rules that clash keep their order: by places of the table, and by rules
 kept-turned : {table : List ℕ} → IsTable table → (o : List ℕ) → Kept (rulesOf table) o ↔ NoneTurned table o
@@ -143,28 +147,28 @@ kept-turned {table} t o = (
       (less (newPlace o (p .higher)) (newPlace o (p .lower))),
 )
 
-module _ {table o output after : List ℕ} {r : judged.Judged} (t : IsTable table) (is-order : IsOrder table o)
+module _ {table o output after : List ℕ} {r : judged.Judged} (t : IsTable table) (x : IsOrder table o)
     (room : length table ≤ length output) (j : Judges table o output r after) where
   pub judge-exact : (r ≡ Allowed) ↔ NoneTurned table o
   judge-exact = (
     λ e. kept-turned t o .0 (allowed-exact (rulesOf table) o .0 (judged-moved table o output after (subst (λ (x : judged.Judged). Judges table o output x after) e j) .allowed)),
-    λ none-turned. allowed-judged (t .accepted) (ordered is-order) room j (allowed-exact (rulesOf table) o .1 (kept-turned t o .1 none-turned)),
+    λ none-turned. allowed-judged (t .accepted) (is-order table o .0 x) room j (allowed-exact (rulesOf table) o .1 (kept-turned t o .1 none-turned)),
   )
 
   pub judge-either : (r ≡ Allowed) ⊎ ((c : Crossing) × (r ≡ judged.the-variants.Refused (NotAllowed c)))
   judge-either = go (judge.crossing (rulesOf table) o) refl
     where
       go : (q : Option Pair) → judge.crossing (rulesOf table) o ≡ q → (r ≡ Allowed) ⊎ ((c : Crossing) × (r ≡ judged.the-variants.Refused (NotAllowed c)))
-      go none e = inl (allowed-judged (t .accepted) (ordered is-order) room j e)
-      go (some p) e = inr (crossed-judged (t .accepted) (ordered is-order) room j p e)
+      go none e = inl (allowed-judged (t .accepted) (is-order table o .0 x) room j e)
+      go (some p) e = inr (crossed-judged (t .accepted) (is-order table o .0 x) room j p e)
 
 -- ---- in place, undone, and in a row
 
 -- an allowed order, judged, writes the moved table
 moves : {table o output after : List ℕ} {r : judged.Judged} → Accepted table → isOrder (ruleCount table) o ≡ true → length table ≤ length output
     → judge.Allowed (rulesOf table) o → Judges table o output r after → (r ≡ Allowed) × (take (length table) after ≡ movedTable table o)
-moves {table} {o} {output} {after} {r} ok is-order room a j =
-    let e = allowed-judged ok is-order room j a in
+moves {table} {o} {output} {after} {r} ok ordered room a j =
+    let e = allowed-judged ok ordered room j a in
     (e, judged-moved table o output after (subst (λ (x : judged.Judged). Judges table o output x after) e j) .written)
 
 pub judge-in-place : {table output after : List ℕ} {r : judged.Judged} → IsTable table → length table ≤ length output

@@ -78,7 +78,7 @@ module _ (table order output : List ℕ) where
     judge-no-order e = refuses NotAnOrder (past-table ∙ rw e)
 
     module _ (ordered : isOrder (ruleCount table) order ≡ true) where
-      past-order : judgeSaid table order output ≡ firstRefusal (outputSaid table output) last
+      pub past-order : judgeSaid table order output ≡ firstRefusal (outputSaid table output) last
       unfolding orderSaid firstRefusal
       past-order = past-table ∙ rw ordered
 
@@ -87,15 +87,18 @@ module _ (table order output : List ℕ) where
       judge-short h = refuses ShortOutput (past-order ∙ rw (lt-ltb (length output) (length table) h))
 
       module _ (room : length table ≤ length output) where
-        past-output : judgeSaid table order output ≡ saidOf told
+        pub past-output : judgeSaid table order output ≡ last
         unfolding outputSaid firstRefusal
-        past-output = past-order ∙ rw (le-ltb (length output) (length table) room) (told-said (rulesOf table) (crossing (rulesOf table) order))
+        past-output = past-order ∙ rw (le-ltb (length output) (length table) room)
+
+        says-told : judgeSaid table order output ≡ saidOf told
+        says-told = past-output ∙ told-said (rulesOf table) (crossing (rulesOf table) order)
 
         pub judge-crossed : (c : Crossing) → crossingTold c ≡ told → Judges table order output (Refused (NotAllowed c)) output
-        judge-crossed c e = refuses (NotAllowed c) (past-output ∙ ap saidOf (sym e) ∙ crossing-said c)
+        judge-crossed c e = refuses (NotAllowed c) (says-told ∙ ap saidOf (sym e) ∙ crossing-said c)
 
         pub judge-allowed : [] ≡ told → Judges table order output Allowed written
         unfolding judgedSaid judgeLeft saidOf
         judge-allowed e =
-            let done : judgeSaid table order output ≡ 0 ∷ [] = past-output ∙ ap saidOf (sym e) in
+            let done : judgeSaid table order output ≡ 0 ∷ [] = says-told ∙ ap saidOf (sym e) in
             record { answer = sym done; lent = sym (done-written (judgeSaid table order output) written output [] done) }

@@ -5,6 +5,8 @@ pub mod BuildLaws
 pub mod PairsLaws
 pub mod JudgeLaws
 pub mod Determined
+pub mod SaidNumbers
+pub mod Reasons
 pub mod Demand1
 pub mod Demand2
 pub mod ListedPairs

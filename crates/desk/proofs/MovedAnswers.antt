@@ -1,7 +1,7 @@
 -- Demand 3 through demand 2: after an allowed move, a header looked up over an index of the moved table, as the output holds it, gets the
 -- action that it gets over an index of the first table, or none where it gets none there.
 -- Assumes nothing.
-use mathlib.Core.Path.{_≡_, sym, ap, subst, _∙_}
+use mathlib.Core.Path.{_≡_, sym, ap, _∙_}
 use mathlib.Core.Logic.{_↔_}
 use mathlib.Core.List.{List}
 use Prim.Native.Nat.{ℕ}
@@ -13,14 +13,14 @@ use Rattle.rules.specs.Header.{headerValues}
 use Rattle.rules.proofs.MatchLaws.{rules-size}
 use Rattle.overlap.specs.Judge as judge
 use Rattle.overlap.proofs.MoveLaws.{move-same-answer}
-use Rattle.overlap.proofs.TableMoves.{moved-rules, moved-accepted, moved-bytes}
+use Rattle.overlap.proofs.TableMoves.{moved-rules}
 use Rattle.lookup.specs.declared.Looked.{Looked}
 use Rattle.desk.specs.declared.Judged.the-variants.{Allowed}
 use Rattle.desk.specs.LookCall.{Looks}
 use Rattle.desk.specs.JudgeCall.{Judges}
 use Rattle.desk.specs.Terms.{IsHeader, IsTable, IsIndex, Gets, Unmatched}
 use Rattle.desk.proofs.Demand2.{gets-answer, unmatched-answer}
-use Rattle.desk.proofs.Demand3.{judged-moved}
+use Rattle.desk.proofs.Demand3.{judged-moved, judge-accepted}
 
 module _ {table order output after old new header : List ℕ} {before now : Looked} (t : IsTable table) (j : Judges table order output Allowed after)
     (h : IsHeader header) (x : IsIndex table old) (l : Looks table old header before)
@@ -29,10 +29,7 @@ module _ {table order output after old new header : List ℕ} {before now : Look
   there = take (length table) after
 
   moved-table : IsTable there
-  moved-table =
-      let m = judged-moved table order output after j in
-      subst IsTable (sym (m .written))
-      (record { bytes = moved-bytes table order (t .bytes); accepted = moved-accepted table order (m .ordered) (m .accepted) })
+  moved-table = judge-accepted t j
 
   same-answer : judge.answerOf (rulesOf there) (headerValues header) ≡ judge.answerOf (rulesOf table) (headerValues header)
   same-answer =

@@ -2,6 +2,7 @@
 -- Assumes nothing.
 use Rattle.desk.specs.Promises as page
 use Rattle.desk.proofs.Determined.{build-one, lookup-one, pairs-one, judge-one, show-one}
+use Rattle.desk.proofs.Reasons as reasons
 use Rattle.desk.proofs.Demand1 as one
 use Rattle.desk.proofs.Demand2 as two
 use Rattle.desk.proofs.ListedPairs as pairs
@@ -25,6 +26,13 @@ demand-1 = record {
   unknown-not-answered = one.unknown-not-answered;
   answered-action = one.answered-action;
   unmatched-no-action = λ t x h l. two.unmatched-no-action t x h l;
+  build-judges = reasons.build-judges;
+  pairs-judges = reasons.pairs-judges;
+  judge-judges = reasons.judge-judges;
+  build-short = reasons.build-short;
+  pairs-short = reasons.pairs-short;
+  judge-no-order = reasons.judge-no-order;
+  judge-short = λ t x j. reasons.judge-short t j x;
   build-untouched = one.build-untouched;
   pairs-untouched = one.pairs-untouched;
   judge-untouched = one.judge-untouched;
@@ -32,6 +40,8 @@ demand-1 = record {
 
 pub demand-2 : page.Demand2
 demand-2 = record {
+  build-done = reasons.build-done;
+  pairs-done = reasons.pairs-done;
   lookup-match = two.lookup-match;
   lookup-none = two.lookup-none;
   pairs-listed = λ t p. pairs.pairs-listed p t;
@@ -45,6 +55,7 @@ demand-3 = record {
   judge-exact = three.judge-exact;
   judge-either = three.judge-either;
   judge-writes = three.judge-writes;
+  judge-accepted = three.judge-accepted;
   moved-same-action = moved-same-action;
   moved-same-none = moved-same-none;
   judge-shows = judge-shows;

@@ -2,17 +2,18 @@
 -- that fits both, on which the two rules alone answer differently in their two orders.
 -- Assumes nothing.
 use mathlib.Core.Path.{_≡_, refl, sym, ap, ap₂, subst, _∙_}
-use mathlib.Core.Logic.{_⊎_}
+use mathlib.Core.Logic.{_⊎_, ⊎-elim}
 use mathlib.Core.Bool.{true}
 use mathlib.Core.List.{List, _++_, head-eq-of-cons-eq}
 use mathlib.Core.Option.{Option, none, some}
 use Prim.Native.Nat.{ℕ, _≤_, _<_}
 use native.Mathlib.Omega.{arith}
 use lib.Dec.{leb}
-use lib.ListN.{length, getD, drop, length-append}
-use lib.Seq.{take-at}
+use lib.ListN.{length, getD, take, drop, length-append}
+use lib.Seq.{take-at, drop-at, take-all}
 use borrow.Author.Tests.{le-ltb}
 use Rattle.bits.specs.Tests.{each}
+use Rattle.bits.proofs.ListLaws.{alike}
 use Rattle.bits.proofs.NumberLaws.{bytes-append}
 use Rattle.rules.specs.declared.Action.{Action}
 use Rattle.rules.specs.declared.Crossing.{Crossing}
@@ -24,8 +25,8 @@ use Rattle.rules.specs.Refusal.{values, said, firstRefusal}
 use Rattle.rules.specs.Header.{headerValues, headerBytes}
 use Rattle.rules.specs.Match.{ruleAt}
 use Rattle.rules.specs.Overlap.{lowestShared}
-use Rattle.rules.specs.Table.{recordSize, ruleCount, recordAt, rulesOf}
-use Rattle.rules.proofs.TableLaws.{sound-known}
+use Rattle.rules.specs.Table.{recordSize, ruleCount, recordAt, rulesOf, fault}
+use Rattle.rules.proofs.TableLaws.{sound-accepted, sound-known}
 use Rattle.rules.proofs.MatchLaws.{rules-size, rules-at}
 use Rattle.rules.proofs.HeaderLaws.{lowest-reads}
 use Rattle.rules.proofs.OverlapLaws.{lowest-shared-fits, lowest-shared-lowest}
@@ -39,30 +40,56 @@ use Rattle.desk.specs.LookCall.{Looks}
 use Rattle.desk.specs.JudgeCall.{judgedSaid, orderSaid, outputSaid, crossingSaid, judgeSaid, Judges}
 use Rattle.desk.specs.Terms.{IsHeader, IsTable, Fits, Wins, IsOrder, Share, Clash, Turned, IsIndex, Gets, Differ, ShownBy}
 use Rattle.desk.proofs.TermLaws.{IsRule, fits-matches, share-rules, rule-in, clash-at}
-use Rattle.desk.proofs.BuildLaws.{built-image}
 use Rattle.desk.proofs.Demand2.{lookup-match}
-use Rattle.desk.proofs.Demand3.{ordered}
+use Rattle.desk.proofs.Reasons.{is-order}
 
 -- ---- two rules alone
+
+module _ {a b : List ℕ} (ra : IsRule a) (rb : IsRule b) where
+  first-record : recordAt (a ++ b) 0 ≡ a
+  unfolding recordAt
+  first-record = take-at a b recordSize (ra .sound .whole)
+
+  second-record : recordAt (a ++ b) 1 ≡ b
+  unfolding recordAt
+  second-record = ap (take recordSize) (drop-at a b recordSize (ra .sound .whole)) ∙ take-all recordSize b (omega (arith, rb .sound .whole))
+
+  -- their table is accepted
+  two-table : IsTable (a ++ b)
+  two-table =
+      let size = length-append a b in
+      record {
+        bytes = bytes-append a b (ra .bytes) (rb .bytes);
+        accepted = sound-accepted (a ++ b) (record {
+          whole = omega (arith, size, ra .sound .whole, rb .sound .whole);
+          few = omega (arith, size, ra .sound .whole, rb .sound .whole);
+          faultless = λ place h.
+              ⊎-elim (λ (e : place ≡ 0). rw e (ap fault first-record ∙ ra .sound .faultless))
+              (λ (more : place ≡ 0 → ⊥).
+              let e : place ≡ 1 = omega (arith, more, size, ra .sound .whole, rb .sound .whole) in
+              rw e (ap fault second-record ∙ rb .sound .faultless))
+              (alike place 0);
+        });
+      }
 
 -- over an index of the table of two records, a header that fits the first gets its action
 first-gets : {a b header area : List ℕ} {r : Looked} → IsRule a → IsRule b → IsHeader header → Fits header a → IsIndex (a ++ b) area
     → Looks (a ++ b) area header r → (x : Action) × (actionIn a ≡ Known x) × Gets r x
-unfolding recordAt
 first-gets {a} {b} {header} ra rb h fits x l =
     let known = sound-known a (ra .sound .faultless) in
-    let table : IsTable (a ++ b) = record { bytes = bytes-append a b (ra .bytes) (rb .bytes); accepted = built-image (x .built) .0 } in
-    let here : recordAt (a ++ b) 0 ≡ a = take-at a b recordSize (ra .sound .whole) in
+    let here = first-record ra rb in
     let wins : Wins (a ++ b) header 0 (known .0) = record {
       inside = omega (arith, length-append a b, ra .sound .whole, rb .sound .whole);
       fits = subst (Fits header) (sym here) fits;
       carries = ap actionIn here ∙ known .1;
       lowest = λ lower q. absurd (omega arith);
     } in
-    (known .0, known .1, (0, lookup-match table x h l 0 (known .0) .1 wins))
+    (known .0, known .1, (0, lookup-match (two-table ra rb) x h l 0 (known .0) .1 wins))
 
 two-differ : {a b header : List ℕ} → IsRule a → IsRule b → IsHeader header → Fits header a → Fits header b → (actionIn a ≡ actionIn b → ⊥) → Differ a b header
 two-differ {a} {b} {header} ra rb h fa fb apart = record {
+  there-table = two-table ra rb;
+  back-table = two-table rb ra;
   apart = λ x l y k.
       let first = first-gets ra rb h fa x l in
       let second = first-gets rb ra h fb y k in
@@ -94,14 +121,14 @@ module _ {a b : List ℕ} (ra : IsRule a) (rb : IsRule b) (s : Share a b) where
 
 -- ---- what refusal 13 carries
 
-module _ {table o output after : List ℕ} {c : Crossing} (t : IsTable table) (is-order : IsOrder table o)
+module _ {table o output after : List ℕ} {c : Crossing} (t : IsTable table) (x : IsOrder table o)
     (room : length table ≤ length output) (j : Judges table o output (judged.the-variants.Refused (NotAllowed c)) after) where
   abbrev rules : List Rule
   rules = rulesOf table
 
   says : said (NotAllowed c) ≡ crossingSaid rules (judge.crossing rules o)
   unfolding judgedSaid judgeSaid firstRefusal orderSaid outputSaid
-  says = j .answer ∙ rw (t .accepted, ordered is-order, le-ltb (length output) (length table) room) refl
+  says = j .answer ∙ rw (t .accepted, is-order table o .0 x, le-ltb (length output) (length table) room) refl
 
   module _ (p : Pair) (crossed : Crossed rules o p) where
     inside : p .higher < ruleCount table

@@ -10,12 +10,12 @@ use Rattle.rules.specs.declared.Action.{Action}
 use Rattle.rules.specs.declared.Decoded.the-variants.{Known}
 use Rattle.rules.specs.declared.Crossing.{Crossing}
 use Rattle.rules.specs.declared.Refusal.{Refusal}
-use Rattle.rules.specs.declared.Refusal.the-variants.{UnknownAction, NotAllowed}
+use Rattle.rules.specs.declared.Refusal.the-variants.{UnknownAction, ShortArea, ShortList, NotAnOrder, ShortOutput, NotAllowed}
 use Rattle.rules.specs.Action.{actionIn}
 use Rattle.rules.specs.Header.{headerValues, headerBytes}
 use Rattle.rules.specs.Match.{falseBlocks}
-use Rattle.rules.specs.Refusal.{values}
-use Rattle.rules.specs.Table.{ruleCount, recordAt, rulesOf}
+use Rattle.rules.specs.Refusal.{values, said}
+use Rattle.rules.specs.Table.{ruleCount, recordAt, rulesOf, verdict}
 use Rattle.area.specs.Shape.{blocks}
 use Rattle.overlap.specs.Order.{movedTable, inPlace, wayBack, andThen}
 use Rattle.lookup.specs.declared.Answer.{Answer}
@@ -27,9 +27,9 @@ use Rattle.desk.specs.declared.Paired as paired
 use Rattle.desk.specs.declared.Paired.the-variants.{Listed}
 use Rattle.desk.specs.declared.Judged as judged
 use Rattle.desk.specs.declared.Judged.the-variants.{Allowed}
-use Rattle.desk.specs.BuildCall.{Builds}
+use Rattle.desk.specs.BuildCall.{wordsNeeded, Builds}
 use Rattle.desk.specs.LookCall.{Looks}
-use Rattle.desk.specs.PairsCall.{Pairs}
+use Rattle.desk.specs.PairsCall.{pairCount, Pairs}
 use Rattle.desk.specs.JudgeCall.{Judges}
 use Rattle.desk.specs.Show.{Shows}
 use Rattle.desk.specs.Terms.{IsHeader, IsTable, NoneFits, Wins, ListsPairs, IsOrder, NoneTurned, NoAction, UnknownAt, IsIndex, Matched, Gets, Unmatched, ShownBy}
@@ -68,13 +68,34 @@ pub record Demand1 : Type 0 where
       → (place < ruleCount table) × (actionIn (recordAt table place) ≡ Known action)
   pub unmatched-no-action : {table area header : List ℕ} {r : Looked} {action : Action} → IsTable table → IsIndex table area → IsHeader header
       → Looks table area header r → NoneFits header table → Gets r action → ⊥
-  -- "Every refusal has one exact reason and leaves the lent memory untouched."
+  -- "Every refusal has one exact reason": the table's, which is the same for all calls, and for an accepted table the room's or the order's
+  -- (13 is demand 3's)
+  pub build-judges : {table area after : List ℕ} {r : built.Built} {why : Refusal} → Builds table area r after
+      → said why ≡ verdict table → r ≡ built.the-variants.Refused why
+  pub pairs-judges : {table list after : List ℕ} {r : paired.Paired} {why : Refusal} → Pairs table list r after
+      → said why ≡ verdict table → r ≡ paired.the-variants.Refused why
+  pub judge-judges : {table order output after : List ℕ} {r : judged.Judged} {why : Refusal} → Judges table order output r after
+      → said why ≡ verdict table → r ≡ judged.the-variants.Refused why
+  pub build-short : {table area after : List ℕ} {r : built.Built} → IsTable table → Builds table area r after
+      → (r ≡ built.the-variants.Refused ShortArea) ↔ (length area < wordsNeeded table)
+  pub pairs-short : {table list after : List ℕ} {r : paired.Paired} → IsTable table → Pairs table list r after
+      → (r ≡ paired.the-variants.Refused ShortList) ↔ (length list < 2 * pairCount table)
+  pub judge-no-order : {table order output after : List ℕ} {r : judged.Judged} → IsTable table → Judges table order output r after
+      → (r ≡ judged.the-variants.Refused NotAnOrder) ↔ (IsOrder table order → ⊥)
+  pub judge-short : {table order output after : List ℕ} {r : judged.Judged} → IsTable table → IsOrder table order → Judges table order output r after
+      → (r ≡ judged.the-variants.Refused ShortOutput) ↔ (length output < length table)
+  -- "and leaves the lent memory untouched"
   pub build-untouched : {table area after : List ℕ} {why : Refusal} → Builds table area (built.the-variants.Refused why) after → after ≡ area
   pub pairs-untouched : {table list after : List ℕ} {why : Refusal} → Pairs table list (paired.the-variants.Refused why) after → after ≡ list
   pub judge-untouched : {table order output after : List ℕ} {why : Refusal} → Judges table order output (judged.the-variants.Refused why) after
       → after ≡ output
 
 pub record Demand2 : Type 0 where
+  -- an accepted table's index is built wherever it has room, and its pairs are listed
+  pub build-done : {table area after : List ℕ} {r : built.Built} → IsTable table → Builds table area r after
+      → (r ≡ Done (wordsNeeded table)) ↔ (wordsNeeded table ≤ length area)
+  pub pairs-done : {table list after : List ℕ} {r : paired.Paired} → IsTable table → Pairs table list r after
+      → (r ≡ Listed (pairCount table)) ↔ (2 * pairCount table ≤ length list)
   -- "Accepted table, an index built from it and unchanged since, any 13-byte header: the lowest-numbered matching rule with its action"
   pub lookup-match : {table area header : List ℕ} {r : Looked} → IsTable table → IsIndex table area → IsHeader header → Looks table area header r
       → (place : ℕ) (action : Action) → Matched r place action ↔ Wins table header place action
@@ -98,9 +119,10 @@ pub record Demand3 : Type 0 where
   pub judge-either : {table order output after : List ℕ} {r : judged.Judged} → IsTable table → IsOrder table order
       → length table ≤ length output → Judges table order output r after
       → (r ≡ Allowed) ⊎ ((c : Crossing) × (r ≡ judged.the-variants.Refused (NotAllowed c)))
-  -- "and the table written in that order": the output starts with it; bytes after it stay
+  -- "and the table written in that order": the output starts with it, bytes after it stay, and it is accepted
   pub judge-writes : {table order output after : List ℕ} → Judges table order output Allowed after
       → (take (length table) after ≡ movedTable table order) × (drop (length table) after ≡ drop (length table) output)
+  pub judge-accepted : {table order output after : List ℕ} → IsTable table → Judges table order output Allowed after → IsTable (take (length table) after)
   -- "After an allowed move every header gets the same action, or none, as before."
   pub moved-same-action : {table order output after old new header : List ℕ} {before now : Looked} → IsTable table
       → Judges table order output Allowed after → IsHeader header → IsIndex table old → Looks table old header before

@@ -143,8 +143,11 @@ Unmatched r = (falses : ℕ) × (r ≡ Found (record { falses = falses; outcome 
 
 -- ---- what refusal 13 shows
 
--- two rules alone answer a header differently in their two orders: over indexes of the two tables that these two records make
+-- two rules alone answer a header differently in their two orders: over indexes of the two tables that these two records make, which are
+-- accepted
 pub record Differ (a b header : List ℕ) : Type 0 where
+  pub there-table : IsTable (a ++ b)
+  pub back-table : IsTable (b ++ a)
   pub apart : {there back : List ℕ} {first second : Looked} → IsIndex (a ++ b) there → Looks (a ++ b) there header first
       → IsIndex (b ++ a) back → Looks (b ++ a) back header second → (x y : Action) × Gets first x × Gets second y × (x ≡ y → ⊥)
 
