@@ -20,6 +20,7 @@ pub record State : Type 0 where
   pub at : ℕ
   pub next : ℕ
 
+-- a state by its parts
 abbrev pub mk : List ℕ → ℕ → ℕ → State
 mk a t n = record { area = a; at = t; next = n }
 
@@ -43,6 +44,7 @@ walked w v n s = upto (λ j. down (bitOf w v j)) n s
 unfoldable pub withBit : ℕ → ℕ → List ℕ → List ℕ
 withBit t i a = set a (recordWords * t + vectorStart + i / 32) (bitOr (getD a (recordWords * t + vectorStart + i / 32) 0) (2 ^ (i % 32)))
 
+-- down by the top n bits of v, and rule i's bit in the record reached
 unfoldable pub inserted : ℕ → ℕ → ℕ → ℕ → State → State
 inserted w v n i s = mk (withBit (walked w v n s .at) i (walked w v n s .area)) (walked w v n s .at) (walked w v n s .next)
 
@@ -52,6 +54,7 @@ inserted w v n i s = mk (withBit (walked w v n s .at) i (walked w v n s .area)) 
 unfoldable pub Kids : List ℕ → ℕ → Type 0
 Kids a n = (k b : ℕ) → k < n → b < 2 → getD a (recordWords * k + b) 0 < n
 
+-- the roots and all records so far lie in the area and lead to one another alone, and the walk stands at one of them
 pub record Ready (s : State) : Type 0 where
   pub roots : 5 ≤ s .next
   pub inside : s .at < s .next

@@ -12,6 +12,7 @@ use Rattle.index.specs.Key.{Key, at, hasRecord, pathsIn}
 unfoldable pub grown : List Key → Key → List Key
 grown ks k = elim (hasRecord k ks) [ true ↦ ks | false ↦ ks ++ (k ∷ []) ]
 
+-- one step after another
 unfoldable pub grow : List Key → List Key → List Key
 grow ks [] = ks
 grow ks (k ∷ new) = grow (grown ks k) new
@@ -21,18 +22,21 @@ unfoldable pub stepsFrom : ℕ → Path → Path → List Key
 stepsFrom f q [] = []
 stepsFrom f q (b ∷ p) = at f (q ++ (b ∷ [])) ∷ stepsFrom f (q ++ (b ∷ [])) p
 
+-- "bit by bit from the top": all steps of a path
 unfoldable pub insert : List Key → Key → List Key
 insert ks k = grow ks (stepsFrom (k .field) [] (k .path))
 
+-- path after path
 unfoldable pub insertAll : List Key → List Key → List Key
 insertAll ks [] = ks
 insertAll ks (k ∷ new) = insertAll (insert ks k) new
 
--- the paths that are put in, in order: of a rule, its n fields from f on; and of all rules
+-- "field by field": the paths that a rule puts into its n fields from f on
 unfoldable pub ruleInserts : ℕ → ℕ → Rule → List Key
 ruleInserts f zero r = []
 ruleInserts f (suc n) r = map (at f) (pathsIn r f) ++ ruleInserts (suc f) n r
 
+-- "rule by rule"
 unfoldable pub inserts : ℕ → List Rule → List Key
 inserts n [] = []
 inserts n (r ∷ rules) = ruleInserts 0 n r ++ inserts n rules

@@ -24,6 +24,7 @@ fieldIn bytes i f s =
     let t = inserted (fieldAt f .width) (valueIn bytes (fieldAt f)) (lengthIn bytes (fieldAt f)) i (mk (s .area) f (s .next)) in
     mk (t .area) 0 (t .next)
 
+-- rule i's five prefixes go in
 unfoldable pub ruleIn : List ℕ → ℕ → State → State
 ruleIn bytes i s = upto (fieldIn bytes i) 5 s
 
@@ -31,6 +32,7 @@ ruleIn bytes i s = upto (fieldIn bytes i) 5 s
 unfoldable pub rulesIn : List ℕ → ℕ → State → State
 rulesIn table n s = upto (λ i. ruleIn (recordAt table i) i) n s
 
+-- five roots, cleared, in an area whatever it held
 unfoldable pub cleared : List ℕ → State
 cleared a = mk (zeroed 0 (5 * recordWords) a) 0 5
 
