@@ -111,10 +111,6 @@ unfolding flatten
 flatten-append [] ms = refl
 flatten-append {A} (l ∷ ls) ms = ap (λ (r : List A). l ++ r) (flatten-append ls ms) ∙ sym (append-assoc l (flatten ls) (flatten ms))
 
-pub map-map : {A B C : Type 0} (g : A → B) (h : B → C) (l : List A) → map h (map g l) ≡ map (λ x. h (g x)) l
-map-map g h [] = refl
-map-map {C} g h (x ∷ l) = ap (λ (m : List C). h (g x) ∷ m) (map-map g h l)
-
 -- ---- the end of a list
 
 module _ {A : Type 0} where

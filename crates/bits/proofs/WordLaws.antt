@@ -14,27 +14,24 @@ use lib.ListN.{length, getD}
 use borrow.Author.Tests.{ne-eqb}
 use Rattle.bits.specs.Tests.{any}
 use Rattle.bits.specs.Word.{digit, wordOf, bit, nonzero}
+use Rattle.bits.proofs.DigitLaws.{digit-small, digit-back}
 use Rattle.bits.proofs.TestLaws.{clash, same-eqb, Lowest}
 
 -- ---- a word's lowest place, and the others
 
-digit-lt : (b : Bool) → digit b < 2
-digit-lt true = omega arith
-digit-lt false = omega arith
-
 pub word-half : (b : Bool) (bs : List Bool) → wordOf (b ∷ bs) / 2 ≡ wordOf bs
 unfolding wordOf
-word-half b bs = digits-div (wordOf bs) (digit-lt b)
+word-half b bs = digits-div (wordOf bs) (digit-small b)
 
 pub word-odd : (b : Bool) (bs : List Bool) → wordOf (b ∷ bs) % 2 ≡ digit b
 unfolding wordOf
-word-odd b bs = digits-mod (wordOf bs) (digit-lt b)
+word-odd b bs = digits-mod (wordOf bs) (digit-small b)
 
 -- a word of n places is below 2 ^ n
 pub word-small : (l : List Bool) → wordOf l < 2 ^ length l
 unfolding wordOf
 word-small [] = zero-lt-suc 0
-word-small (b ∷ l) = omega (arith, word-small l, digit-lt b, pow-suc 2 (length l))
+word-small (b ∷ l) = omega (arith, word-small l, digit-small b, pow-suc 2 (length l))
 
 -- one place more at the end adds its power of two
 pub word-snoc : (l : List Bool) (b : Bool) → wordOf (l ++ (b ∷ [])) ≡ wordOf l + digit b * 2 ^ length l
@@ -71,13 +68,9 @@ bit-none : (b : ℕ) → bit 0 b ≡ false
 unfolding bit
 bit-none b = ap (λ (x : ℕ). eqb (x % 2) 1) (zero-div (2 ^ b))
 
-digit-one : (b : Bool) → eqb (digit b) 1 ≡ b
-digit-one true = refl
-digit-one false = refl
-
 pub bit-word : (l : List Bool) (b : ℕ) → bit (wordOf l) b ≡ getD l b false
 bit-word [] b = unfold wordOf in bit-none b
-bit-word (a ∷ l) zero = bit-zero (wordOf (a ∷ l)) ∙ ap (λ (x : ℕ). eqb x 1) (word-odd a l) ∙ digit-one a
+bit-word (a ∷ l) zero = bit-zero (wordOf (a ∷ l)) ∙ ap (λ (x : ℕ). eqb x 1) (word-odd a l) ∙ digit-back a
 bit-word (a ∷ l) (suc b) = bit-suc (wordOf (a ∷ l)) b ∙ ap (λ (x : ℕ). bit x b) (word-half a l) ∙ bit-word l b
 
 -- a word with a bit is not zero

@@ -4,7 +4,7 @@
 use mathlib.Core.Path.{_≡_, sym, ap, ap₂, _∙_}
 use mathlib.Core.Logic.{⊎-elim}
 use mathlib.Core.Bool.{Bool, true, false}
-use mathlib.Core.List.{List, _++_, map}
+use mathlib.Core.List.{List, _++_, map, map-map}
 use Prim.Native.Nat.{ℕ, zero, suc, _+_, _-_, _*_, _/_, _%_, _≤_, _<_}
 use native.Mathlib.Nat.{le-refl}
 use native.Mathlib.Omega.{arith}
@@ -13,7 +13,6 @@ use lib.Seq.{getD-drop, getD-append-add, ext-getD, take-all}
 use Rattle.bits.specs.Word.{digit, wordOf, pack, nonzero, aggregate}
 use Rattle.bits.specs.Tests.{upFrom}
 use Rattle.bits.proofs.TestLaws.{less}
-use Rattle.bits.proofs.ListLaws.{map-map}
 use Rattle.bits.proofs.EachLaws.{listed}
 use Rattle.bits.proofs.PlaceLaws.{places-agree}
 use Rattle.rules.specs.Rule.{Rule}
@@ -86,7 +85,7 @@ module _ (table : List ℕ) (sound : AllSound table) (few : ruleCount table ≤ 
       sum-word handedArea (recordWords * i + vectorStart) blocks
       ∙ ap wordOf
       (places-agree (λ (w : ℕ). nonzero (vectorWord handedArea i w)) (λ (w : ℕ). nonzero (getD words w 0)) blocks (λ w small. ap nonzero (vectors i h w small))
-      ∙ sym (map-map (λ (w : ℕ). getD words w 0) nonzero (upFrom 0 blocks))
+      ∙ sym (map-map nonzero (λ (w : ℕ). getD words w 0) (upFrom 0 blocks))
       ∙ ap (map nonzero) (ap (λ (n : ℕ). map (λ (w : ℕ). getD words w 0) (upFrom 0 n)) (sym eight) ∙ listed words 0)
       ∙ sym (take-all 32 (map nonzero words) (omega (arith, length-map words nonzero, eight))))
 

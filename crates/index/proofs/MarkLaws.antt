@@ -4,7 +4,7 @@
 use mathlib.Core.Path.{_≡_, refl, sym, ap, ap₂, _∙_}
 use mathlib.Core.Logic.{⊎-elim}
 use mathlib.Core.Bool.{Bool, true, false, _&&_, _||_, or-false, or-true, and-false}
-use mathlib.Core.List.{List, [], _∷_, _++_, map}
+use mathlib.Core.List.{List, [], _∷_, _++_, map, map-map}
 use Prim.Native.Nat.{ℕ, zero, suc, _/_, _%_, _^_, _≤_, _<_, zero-le}
 use native.Mathlib.Nat.{le-refl}
 use native.Mathlib.Omega.{arith}
@@ -16,7 +16,7 @@ use Rattle.bits.specs.Path.{samePath}
 use Rattle.bits.specs.Word.{pack}
 use Rattle.bits.specs.Tests.{any, upFrom}
 use Rattle.bits.proofs.TestLaws.{same-eqb, equal}
-use Rattle.bits.proofs.ListLaws.{any-append, any-ext, any-and, any-map, map-ext, map-map}
+use Rattle.bits.proofs.ListLaws.{any-append, any-ext, any-and, any-map, map-ext}
 use Rattle.bits.proofs.PlaceLaws.{length-places, places-agree, places-set}
 use Rattle.bits.proofs.PackLaws.{length-pack, pack-set}
 use Rattle.bits.proofs.CodeWordLaws.{pack-none}
@@ -151,4 +151,4 @@ module _ (k : Key) (field : k .field < 5) where
         ap (pack 32 blocks)
         (places-agree (markedAt (marksTo table n) k) (λ (p : ℕ). own k (ruleOf (recordAt table p))) n
         (λ p small. marks-own n p small ∙ ap (own k) (rules-at table p small))
-        ∙ sym (unfold rulesOf in map-map (λ p. ruleOf (recordAt table p)) (own k) (upFrom 0 n)))
+        ∙ sym (unfold rulesOf in map-map (own k) (λ p. ruleOf (recordAt table p)) (upFrom 0 n)))

@@ -3,7 +3,7 @@
 -- Assumes nothing.
 use mathlib.Core.Path.{_≡_, refl, sym, ap, ap₂, _∙_, fun-ext}
 use mathlib.Core.Bool.{Bool, true, not, _&&_}
-use mathlib.Core.List.{List, [], _∷_, map}
+use mathlib.Core.List.{List, [], _∷_, map, map-map}
 use mathlib.Core.Option.{Option, some}
 use Prim.Native.Nat.{ℕ, zero, suc, _+_, _*_, _≤_, _<_}
 use native.Mathlib.Omega.{arith}
@@ -12,7 +12,7 @@ use lib.ListN.{length, getD, take, drop, replicate, length-map, length-take}
 use Rattle.bits.specs.Word.{wordOf, pack, nonzero, andAll}
 use Rattle.bits.specs.Tests.{any, all, count}
 use Rattle.bits.proofs.TestLaws.{and-trues, and-both}
-use Rattle.bits.proofs.ListLaws.{any-map, all-ext, all-map, map-ext, take-map, drop-map, map-map, any-implied}
+use Rattle.bits.proofs.ListLaws.{any-map, all-ext, all-map, map-ext, take-map, drop-map, any-implied}
 use Rattle.bits.proofs.WordLaws.{nonzero-word}
 use Rattle.bits.proofs.WordSetLaws.{zipAnd, and-word, mask-word}
 use Rattle.bits.proofs.PackLaws.{pack-at}
@@ -104,7 +104,7 @@ module _ (S : Shape) (lawful : Lawful S) (rules : List Rule) where
 
   block-words : (ks : List Key) (b : ℕ) → b < S .blocks → map (λ v. getD v b 0) (map (vector S rules) ks) ≡ map (λ k. wordOf (map (hit k) (block b))) ks
   block-words ks b h =
-      map-map (vector S rules) (λ v. getD v b 0) ks
+      map-map (λ v. getD v b 0) (vector S rules) ks
       ∙ map-ext (λ k. getD (vector S rules k) b 0) (λ k. wordOf (map (hit k) (block b))) (λ k. block-word k b h) ks
 
   -- the intersection of the keys' words has the rules that all keys hit
@@ -120,7 +120,7 @@ module _ (S : Shape) (lawful : Lawful S) (rules : List Rule) where
   opens : (ks : List Key) (b : ℕ) → b < S .blocks → S .tried (map (λ k. S .summary (vector S rules k)) ks) b ≡ all (λ k. any (hit k) (block b)) ks
   unfolding vector
   opens ks b h =
-      ap (λ l. S .tried l b) (sym (map-map (λ k. map (hit k) rules) (over S) ks))
+      ap (λ l. S .tried l b) (sym (map-map (over S) (λ k. map (hit k) rules) ks))
       ∙ lawful .tried-law (map (λ k. map (hit k) rules) ks) b h
       ∙ all-map (λ x. nonzero (getD (pack (S .size) (S .blocks) x) b 0)) (λ k. map (hit k) rules) ks
       ∙ all-ext (λ k. nonzero (getD (vector S rules k) b 0)) (λ k. any (hit k) (block b))

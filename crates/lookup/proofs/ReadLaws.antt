@@ -1,7 +1,7 @@
 -- A record's words by their places in the area: its aggregate and its vector; and what the steps find, from the words that the records hold.
 -- Assumes nothing.
 use mathlib.Core.Path.{_≡_, ap, _∙_}
-use mathlib.Core.List.{List, map}
+use mathlib.Core.List.{List, map, map-map}
 use mathlib.Core.Option.{none, some}
 use Prim.Native.Nat.{ℕ, _+_, _*_, _/_, _<_}
 use native.Mathlib.Nat.{mul-comm}
@@ -9,7 +9,7 @@ use native.Mathlib.Omega.{arith}
 use lib.ListN.{length, getD, take, drop, length-drop}
 use lib.Seq.{getD-take, getD-drop, length-take-le}
 use Rattle.bits.specs.Word.{bit, andAll}
-use Rattle.bits.proofs.ListLaws.{map-ext, map-map}
+use Rattle.bits.proofs.ListLaws.{map-ext}
 use Rattle.area.specs.Shape.{blocks, deskShape, recordWords, aggregateStart, vectorStart}
 use Rattle.index.specs.Key.{Key}
 use Rattle.lookup.specs.Walk.{rowAt, ends, summariesAt, vectorAt}
@@ -60,7 +60,7 @@ module _ (area : List ℕ) (ks : List Key) where
   unfolding lookupSteps resolve
   steps-some ns e =
       let words : map (λ s. getD s 0 0) (map (summariesAt deskShape area) ns) ≡ map (aggregateAt area) ns =
-      map-map (summariesAt deskShape area) (λ s. getD s 0 0) ns
+      map-map (λ s. getD s 0 0) (summariesAt deskShape area) ns
       ∙ map-ext (λ n. getD (summariesAt deskShape area n) 0 0) (aggregateAt area) (aggregate-read area) ns
       in
       rw (e, lookupSteps)

@@ -1,17 +1,17 @@
 -- The rules of a table by place, and the first that matches a header.
 -- Assumes nothing.
-use mathlib.Core.Path.{_≡_, ap, _∙_}
+use mathlib.Core.Path.{_≡_}
 use mathlib.Core.Bool.{Bool}
 use mathlib.Core.List.{List}
 use mathlib.Core.Option.{none, some}
 use Prim.Native.Nat.{ℕ, _*_, _<_}
-use native.Mathlib.Omega.{arith}
-use lib.ListN.{length, length-map}
+use lib.ListN.{length}
 use Rattle.bits.specs.Number.{Bytes}
 use Rattle.bits.specs.Tests.{all, upFrom}
 use Rattle.bits.proofs.TestLaws.{Lowest, Never, Told, lowest-told, lowest-none, lowest-some}
 use Rattle.bits.proofs.NumberLaws.{part-bytes}
-use Rattle.bits.proofs.EachLaws.{getD-map, up-size, up-at, each-places}
+use Rattle.bits.proofs.EachLaws.{tabled, each-places}
+use Rattle.bits.proofs.PlaceLaws.{length-places}
 use Rattle.rules.specs.Rule.{has, Rule, ruleOf}
 use Rattle.rules.specs.Match.{matches, nowhere, ruleAt, noRule, firstMatch, matchesIn}
 use Rattle.rules.specs.Table.{recordSize, ruleCount, recordAt, rulesOf}
@@ -20,14 +20,11 @@ use Rattle.rules.specs.Table.{recordSize, ruleCount, recordAt, rulesOf}
 
 pub rules-size : (table : List ℕ) → length (rulesOf table) ≡ ruleCount table
 unfolding rulesOf
-rules-size table = length-map (upFrom 0 (ruleCount table)) (λ place. ruleOf (recordAt table place)) ∙ up-size 0 (ruleCount table)
+rules-size table = length-places (λ place. ruleOf (recordAt table place)) (ruleCount table)
 
 pub rules-at : (table : List ℕ) (place : ℕ) → place < ruleCount table → ruleAt (rulesOf table) place ≡ ruleOf (recordAt table place)
 unfolding rulesOf
-rules-at table place h =
-    let n = ruleCount table in
-    getD-map (λ k. ruleOf (recordAt table k)) (upFrom 0 n) place noRule 0 (rw (up-size 0 n) h)
-    ∙ ap (λ (k : ℕ). ruleOf (recordAt table k)) (omega (arith, up-at 0 n place 0 h))
+rules-at table place h = tabled (λ k. ruleOf (recordAt table k)) (ruleCount table) place noRule h
 
 pub record-bytes : (table : List ℕ) → Bytes table → (place : ℕ) → Bytes (recordAt table place)
 unfolding recordAt
