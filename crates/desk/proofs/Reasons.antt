@@ -54,39 +54,41 @@ module _ {table : List ℕ} {why : Refusal} where
 
 -- ---- room
 
+-- a call that is refused where there is too little room, and done where there is enough
+room-exact : {A : Type 0} {r short done : A} (room needed : ℕ) → (room < needed → r ≡ short) → (needed ≤ room → r ≡ done) → (done ≡ short → ⊥)
+    → ((r ≡ short) ↔ (room < needed)) × ((r ≡ done) ↔ (needed ≤ room))
+room-exact room needed few enough apart = (
+  exactly (less room needed) few (λ h e. apart (sym (enough h) ∙ e)),
+  exactly (⊎-elim inr inl (less room needed)) enough (λ h e. apart (sym e ∙ few h)),
+)
+
 module _ {table area after : List ℕ} {r : built.Built} (t : IsTable table) (b : Builds table area r after) where
-  short-built : length area < wordsNeeded table → r ≡ built.the-variants.Refused ShortArea
-  short-built h = build-one b (building.build-short table area (t .accepted) h) .0
-
-  done-built : wordsNeeded table ≤ length area → r ≡ built.the-variants.Done (wordsNeeded table)
-  done-built h = build-one b (building.build-done table area (t .accepted) h) .0
-
-  built-apart : {words : ℕ} {why : Refusal} → built.the-variants.Done words ≡ built.the-variants.Refused why → ⊥
+  build-room : ((r ≡ built.the-variants.Refused ShortArea) ↔ (length area < wordsNeeded table))
+      × ((r ≡ built.the-variants.Done (wordsNeeded table)) ↔ (wordsNeeded table ≤ length area))
   unfolding builtSaid
-  built-apart {why = why} e = not-done why (ap builtSaid e)
+  build-room =
+      room-exact (length area) (wordsNeeded table) (λ h. build-one b (building.build-short table area (t .accepted) h) .0)
+      (λ h. build-one b (building.build-done table area (t .accepted) h) .0) (λ e. not-done ShortArea (ap builtSaid e))
 
   pub build-short : (r ≡ built.the-variants.Refused ShortArea) ↔ (length area < wordsNeeded table)
-  build-short = exactly (less (length area) (wordsNeeded table)) short-built (λ h e. built-apart (sym (done-built h) ∙ e))
+  build-short = build-room .0
 
   pub build-done : (r ≡ built.the-variants.Done (wordsNeeded table)) ↔ (wordsNeeded table ≤ length area)
-  build-done = exactly (⊎-elim inr inl (less (length area) (wordsNeeded table))) done-built (λ h e. built-apart (sym e ∙ short-built h))
+  build-done = build-room .1
 
 module _ {table list after : List ℕ} {r : paired.Paired} (t : IsTable table) (p : Pairs table list r after) where
-  short-paired : length list < 2 * pairCount table → r ≡ paired.the-variants.Refused ShortList
-  short-paired h = pairs-one p (pairing.pairs-short table list (t .accepted) h) .0
-
-  done-paired : 2 * pairCount table ≤ length list → r ≡ paired.the-variants.Listed (pairCount table)
-  done-paired h = pairs-one p (pairing.pairs-listed table list (t .accepted) h) .0
-
-  paired-apart : {count : ℕ} {why : Refusal} → paired.the-variants.Listed count ≡ paired.the-variants.Refused why → ⊥
+  pairs-room : ((r ≡ paired.the-variants.Refused ShortList) ↔ (length list < 2 * pairCount table))
+      × ((r ≡ paired.the-variants.Listed (pairCount table)) ↔ (2 * pairCount table ≤ length list))
   unfolding pairedSaid
-  paired-apart {why = why} e = not-done why (ap pairedSaid e)
+  pairs-room =
+      room-exact (length list) (2 * pairCount table) (λ h. pairs-one p (pairing.pairs-short table list (t .accepted) h) .0)
+      (λ h. pairs-one p (pairing.pairs-listed table list (t .accepted) h) .0) (λ e. not-done ShortList (ap pairedSaid e))
 
   pub pairs-short : (r ≡ paired.the-variants.Refused ShortList) ↔ (length list < 2 * pairCount table)
-  pairs-short = exactly (less (length list) (2 * pairCount table)) short-paired (λ h e. paired-apart (sym (done-paired h) ∙ e))
+  pairs-short = pairs-room .0
 
   pub pairs-done : (r ≡ paired.the-variants.Listed (pairCount table)) ↔ (2 * pairCount table ≤ length list)
-  pairs-done = exactly (⊎-elim inr inl (less (length list) (2 * pairCount table))) done-paired (λ h e. paired-apart (sym e ∙ short-paired h))
+  pairs-done = pairs-room .1
 
 -- ---- orders
 
