@@ -29,7 +29,7 @@ use Rattle.desk.specs.LookCall.{Looks}
 use Rattle.desk.specs.PairsCall.{pairedSaid, pairCount, pairsSaid, pairsLeft, Pairs}
 use Rattle.desk.specs.JudgeCall.{judgedSaid, orderSaid, outputSaid, crossingSaid, judgeSaid, judgeLeft, Judges}
 use Rattle.desk.specs.Terms.{NoAction, UnknownAt, Matched}
-use Rattle.desk.proofs.SaidNumbers.{Never, first-never, room-never, order-never, output-never, crossing-never}
+use Rattle.desk.proofs.SaidNumbers.{NotSaid, first-never, room-never, order-never, output-never, crossing-never}
 use Rattle.desk.proofs.LentLaws.{lent-refused, done-accepted}
 use Rattle.desk.proofs.BuildLaws.{build-refused}
 use Rattle.desk.proofs.PairsLaws.{pairs-refused}
@@ -54,13 +54,13 @@ judge-untouched {table} {order} {output} {after} {why} j = j .lent ∙ sym (lent
 
 -- where nothing after the verdict says 5, it is the verdict's
 module _ (table : List ℕ) (place : ℕ) where
-  first-verdict : (v rest : List ℕ) → Never 5 rest → firstRefusal v rest ≡ 5 ∷ place ∷ [] → v ≡ 5 ∷ place ∷ []
+  first-verdict : (v rest : List ℕ) → NotSaid 5 rest → firstRefusal v rest ≡ 5 ∷ place ∷ [] → v ≡ 5 ∷ place ∷ []
   unfolding firstRefusal
   first-verdict [] rest never e = absurd (never (ap (λ (l : List ℕ). getD l 0 0) e))
   first-verdict (zero ∷ vs) rest never e = absurd (never (ap (λ (l : List ℕ). getD l 0 0) e))
   first-verdict (suc n ∷ vs) rest never e = e
 
-  unknown-at : (rest : List ℕ) → Never 5 rest → firstRefusal (verdict table) rest ≡ said (UnknownAction place) → UnknownAt table place
+  unknown-at : (rest : List ℕ) → NotSaid 5 rest → firstRefusal (verdict table) rest ≡ said (UnknownAction place) → UnknownAt table place
   unfolding said actionIn
   unknown-at rest never e =
       let f = verdict-fault table 4 place .0 (first-verdict (verdict table) rest never e) in

@@ -19,7 +19,7 @@ use Rattle.rules.specs.Match.{ruleAt}
 use Rattle.rules.specs.Overlap.{lowestShared}
 use Rattle.rules.specs.Table.{ruleCount, recordAt, rulesOf, verdict, Accepted}
 use Rattle.rules.proofs.MatchLaws.{rules-size, rules-at}
-use Rattle.rules.proofs.HeaderLaws.{lowest, lowest-values}
+use Rattle.rules.proofs.HeaderLaws.{lowestHeader, lowest-values}
 use Rattle.overlap.specs.Pairs.{Pair}
 use Rattle.overlap.specs.Order.{isOrder, newPlace, moved, movedTable, inPlace, wayBack, andThen}
 use Rattle.overlap.specs.Judge as judge
@@ -121,7 +121,7 @@ module _ {table o output : List ℕ} (ok : Accepted table) (ordered : isOrder (r
       let within = crossing-exact (rulesOf table) o p .0 e .within in
       let a = rules-at table (p .lower) (omega (arith, within .rises, within .inside, rules-size table)) in
       let b = rules-at table (p .higher) (omega (arith, within .inside, rules-size table)) in
-      let low = lowest (recordAt table (p .lower)) (recordAt table (p .higher)) in
+      let low = lowestHeader (recordAt table (p .lower)) (recordAt table (p .higher)) in
       let c : Crossing = record { lower = p .lower; higher = p .higher; header = low } in
       let shown : values low ≡ lowestShared (ruleAt (rulesOf table) (p .lower)) (ruleAt (rulesOf table) (p .higher)) =
       lowest-values (recordAt table (p .lower)) (recordAt table (p .higher)) ∙ sym (ap₂ lowestShared a b)

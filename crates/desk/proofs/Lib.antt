@@ -12,6 +12,6 @@ pub mod Demand2
 pub mod ListedPairs
 pub mod Demand3
 pub mod MovedAnswers
-pub mod ShownHeader
+pub mod Crossings
 pub mod Promises
 pub mod WorkedOut

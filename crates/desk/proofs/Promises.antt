@@ -8,7 +8,7 @@ use Rattle.desk.proofs.Demand2 as two
 use Rattle.desk.proofs.ListedPairs as pairs
 use Rattle.desk.proofs.Demand3 as three
 use Rattle.desk.proofs.MovedAnswers.{moved-same-action, moved-same-none}
-use Rattle.desk.proofs.ShownHeader.{judge-shows}
+use Rattle.desk.proofs.Crossings.{judge-crossing}
 
 pub demand-1 : page.Demand1
 demand-1 = record {
@@ -58,7 +58,7 @@ demand-3 = record {
   judge-accepted = three.judge-accepted;
   moved-same-action = moved-same-action;
   moved-same-none = moved-same-none;
-  judge-shows = judge-shows;
+  judge-crossing = judge-crossing;
   judge-in-place = three.judge-in-place;
   judge-undone = three.judge-undone;
   judge-composed = three.judge-composed;

@@ -32,7 +32,7 @@ use Rattle.desk.specs.LookCall.{Looks}
 use Rattle.desk.specs.PairsCall.{pairCount, Pairs}
 use Rattle.desk.specs.JudgeCall.{Judges}
 use Rattle.desk.specs.Show.{Shows}
-use Rattle.desk.specs.Terms.{IsHeader, IsTable, NoneFits, Wins, ListsPairs, IsOrder, NoneTurned, NoAction, UnknownAt, IsIndex, Matched, Gets, Unmatched, ShownBy}
+use Rattle.desk.specs.Terms.{IsHeader, IsTable, NoneFits, Wins, ListsPairs, IsOrder, NoneTurned, NoAction, UnknownAt, IsIndex, Matched, Gets, Unmatched, IsCrossing}
 
 pub record Demand1 : Type 0 where
   -- "Whatever bytes come in, the desk ends, stays inside the memory that it was lent and answers by name." No call has a `requires`, and
@@ -132,9 +132,9 @@ pub record Demand3 : Type 0 where
       → Judges table order output Allowed after → IsHeader header → IsIndex table old → Looks table old header before
       → IsIndex (take (length table) after) new → Looks (take (length table) after) new header now → Unmatched before ↔ Unmatched now
   -- "A refused move shows a header on which those two rules alone answer differently in the two orders": the 13 bytes that refusal 13 carries
-  pub judge-shows : {table order output after : List ℕ} {c : Crossing} → IsTable table → IsOrder table order
+  pub judge-crossing : {table order output after : List ℕ} {c : Crossing} → IsTable table → IsOrder table order
       → length table ≤ length output → Judges table order output (judged.the-variants.Refused (NotAllowed c)) after
-      → ShownBy table order (c .lower) (c .higher) (headerBytes (values (c .header)))
+      → IsCrossing table order (c .lower) (c .higher) (headerBytes (values (c .header)))
   -- "Leaving all in place is allowed"
   pub judge-in-place : {table output after : List ℕ} {r : judged.Judged} → IsTable table → length table ≤ length output
       → Judges table (inPlace (ruleCount table)) output r after → (r ≡ Allowed) × (take (length table) after ≡ table)

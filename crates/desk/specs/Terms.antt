@@ -153,7 +153,7 @@ pub record Differ (a b header : List ℕ) : Type 0 where
 
 -- "the first pair by old places (lower, then higher) that changes order, shares a header and differs in action, and their lowest shared
 -- header"
-pub record ShownBy (table order : List ℕ) (lower higher : ℕ) (header : List ℕ) : Type 0 where
+pub record IsCrossing (table order : List ℕ) (lower higher : ℕ) (header : List ℕ) : Type 0 where
   pub rises : lower < higher
   pub inside : higher < ruleCount table
   pub turned : Turned table order lower higher

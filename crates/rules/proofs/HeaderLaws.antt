@@ -55,15 +55,15 @@ module _ (a b : List ℕ) where
   abbrev larger : ℕ → ℕ
   larger f = max (valueIn a (fieldAt f)) (valueIn b (fieldAt f))
 
-  abbrev pub lowest : Header
-  lowest = record { source = larger 0; destination = larger 1; sport = larger 2; dport = larger 3; protocol = larger 4 }
+  abbrev pub lowestHeader : Header
+  lowestHeader = record { source = larger 0; destination = larger 1; sport = larger 2; dport = larger 3; protocol = larger 4 }
 
-  pub lowest-values : values lowest ≡ lowestShared (ruleOf a) (ruleOf b)
+  pub lowest-values : values lowestHeader ≡ lowestShared (ruleOf a) (ruleOf b)
   unfolding lowestShared spanLow spanOf ruleOf zipWith
   lowest-values = refl
 
 -- and as its 13 bytes
-pub record Reads (values bytes : List ℕ) : Type 0 where
+pub record HeaderOf (values bytes : List ℕ) : Type 0 where
   pub bytes-small : Bytes bytes
   pub size : length bytes ≡ headerSize
   pub read : headerValues bytes ≡ values
@@ -80,14 +80,14 @@ module _ (a b : List ℕ) (ba : Bytes a) (bb : Bytes b) (ra : SoundRule a) (rb :
   larger-small : (f : ℕ) → f < 5 → larger a b f < 2 ^ (fieldAt f .width)
   larger-small f h = omega (arith, value-small a ba (omega (arith, ra .whole)) f h, value-small b bb (omega (arith, rb .whole)) f h)
 
-  lowest-small : (f : ℕ) → f < 5 → getD (values (lowest a b)) f 0 < 2 ^ (fieldAt f .width)
+  lowest-small : (f : ℕ) → f < 5 → getD (values (lowestHeader a b)) f 0 < 2 ^ (fieldAt f .width)
   unfolding upFrom
   lowest-small f h = rw (tabled (larger a b) 5 f 0 h) (larger-small f h)
 
-  pub lowest-reads : Reads (lowestShared (ruleOf a) (ruleOf b)) (headerBytes (lowestShared (ruleOf a) (ruleOf b)))
+  pub lowest-reads : HeaderOf (lowestShared (ruleOf a) (ruleOf b)) (headerBytes (lowestShared (ruleOf a) (ruleOf b)))
   lowest-reads =
-      subst (λ (vs : List ℕ). Reads vs (headerBytes vs)) (lowest-values a b)
-      (record { bytes-small = header-bytes (values (lowest a b)) lowest-small; size = header-size (lowest a b); read = header-values (lowest a b) })
+      subst (λ (vs : List ℕ). HeaderOf vs (headerBytes vs)) (lowest-values a b)
+      (record { bytes-small = header-bytes (values (lowestHeader a b)) lowest-small; size = header-size (lowestHeader a b); read = header-values (lowestHeader a b) })
 
   pub shared-header : share (ruleOf a) (ruleOf b) ≡ true → Shared a b
   shared-header e =

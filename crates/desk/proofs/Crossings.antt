@@ -38,7 +38,7 @@ use Rattle.lookup.specs.declared.Looked.{Looked}
 use Rattle.desk.specs.declared.Judged as judged
 use Rattle.desk.specs.LookCall.{Looks}
 use Rattle.desk.specs.JudgeCall.{judgedSaid, orderSaid, outputSaid, crossingSaid, judgeSaid, Judges}
-use Rattle.desk.specs.Terms.{IsHeader, IsTable, Fits, Wins, IsOrder, Share, Clash, Turned, IsIndex, Gets, Differ, ShownBy}
+use Rattle.desk.specs.Terms.{IsHeader, IsTable, Fits, Wins, IsOrder, Share, Clash, Turned, IsIndex, Gets, Differ, IsCrossing}
 use Rattle.desk.proofs.TermLaws.{IsRule, fits-matches, share-rules, rule-in, clash-at}
 use Rattle.desk.proofs.Demand2.{lookup-match}
 use Rattle.desk.proofs.Reasons.{is-order}
@@ -155,8 +155,8 @@ module _ {table o output after : List ℕ} {c : Crossing} (t : IsTable table) (x
           crossed .first (pair i k) (record { rises = h; inside = rw (rules-size table) g }) before (clash-at t low g .0 (turned .clash)),
         )
 
-    shown : ShownBy table o (p .lower) (p .higher) (shared first second (clashes .share))
-    shown =
+    crossing-is : IsCrossing table o (p .lower) (p .higher) (shared first second (clashes .share))
+    crossing-is =
         let fits = shared-fits first second (clashes .share) in
         let is = shared-is first second (clashes .share) in
         record {
@@ -172,7 +172,7 @@ module _ {table o output after : List ℕ} {c : Crossing} (t : IsTable table) (x
         }
 
   named : (q : Option Pair) → judge.crossing rules o ≡ q → said (NotAllowed c) ≡ crossingSaid rules q
-      → ShownBy table o (c .lower) (c .higher) (headerBytes (values (c .header)))
+      → IsCrossing table o (c .lower) (c .higher) (headerBytes (values (c .header)))
   unfolding said crossingSaid
   named none e s = absurd (omega (arith, head-eq-of-cons-eq s))
   named (some p) e s =
@@ -182,7 +182,7 @@ module _ {table o output after : List ℕ} {c : Crossing} (t : IsTable table) (x
       let bytes : headerBytes (values (c .header)) ≡ headerBytes (lowestShared (ruleOf (recordAt table (p .lower))) (ruleOf (recordAt table (p .higher)))) =
       ap (drop 3) s ∙ ap headerBytes (ap₂ lowestShared (rules-at table (p .lower) (below p crossed)) (rules-at table (p .higher) (inside p crossed)))
       in
-      rw (low, high, bytes) (shown p crossed)
+      rw (low, high, bytes) (crossing-is p crossed)
 
-  pub judge-shows : ShownBy table o (c .lower) (c .higher) (headerBytes (values (c .header)))
-  judge-shows = named (judge.crossing rules o) refl says
+  pub judge-crossing : IsCrossing table o (c .lower) (c .higher) (headerBytes (values (c .header)))
+  judge-crossing = named (judge.crossing rules o) refl says
