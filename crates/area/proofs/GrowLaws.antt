@@ -125,13 +125,13 @@ bit-length t i a = simp length-set
 -- ---- steps that can be taken one after another: none takes a record back, and where there is room for what a step makes, it keeps
 -- the state ready and the area as long as it was
 
-pub record Kept (s t : State) : Type 0 where
+pub record StateKept (s t : State) : Type 0 where
   pub ready : Ready t
   pub long : length (t .area) ≡ length (s .area)
 
 pub record Good (step : State → State) : Type 0 where
   pub more : (s : State) → s .next ≤ step s .next
-  pub keeps : (s : State) → Ready s → Roomy (step s) (length (s .area)) → Kept s (step s)
+  pub keeps : (s : State) → Ready s → Roomy (step s) (length (s .area)) → StateKept s (step s)
 
 module _ (step : ℕ → State → State) (n : ℕ) (good : (j : ℕ) → j < n → Good (step j)) where
   upto-le : (s : State) (j m : ℕ) → j ≤ m → m ≤ n → upto step j s .next ≤ upto step m s .next
@@ -145,7 +145,7 @@ module _ (step : ℕ → State → State) (n : ℕ) (good : (j : ℕ) → j < n 
     on-way j h = let le = upto-le s j n h (le-refl n) in record { room = omega (arith, le, room .room); small = omega (arith, le, room .small) }
 
     -- and each is ready
-    pub state : (j : ℕ) → j ≤ n → Kept s (upto step j s)
+    pub state : (j : ℕ) → j ≤ n → StateKept s (upto step j s)
     unfolding upto
     state zero h = record { ready = r; long = refl }
     state (suc j) h =

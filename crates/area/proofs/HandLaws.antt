@@ -27,28 +27,28 @@ unfolding toChild
 child-some k b a e = rw (ne-eqb (getD a (recordWords * k + b) 0) 0 e)
 
 -- an area of m words whose first n records have their children below n
-pub record Sound (n m : ℕ) (a : List ℕ) : Type 0 where
+pub record Bounded (n m : ℕ) (a : List ℕ) : Type 0 where
   pub kids : Kids a n
   pub long : length a ≡ m
 
 module _ (n m : ℕ) where
-  or-sound : (k c w : ℕ) (a : List ℕ) → w < blocks → Sound n m a → Sound n m (orWord k c w a)
+  or-sound : (k c w : ℕ) (a : List ℕ) → w < blocks → Bounded n m a → Bounded n m (orWord k c w a)
   unfolding Kids
   or-sound k c w a l s = record {
     kids = λ r b hr hb. rw (getD-set-other a (recordWords * c + vectorStart + w) (recordWords * r + b) _ 0 (λ e. omega arith)) (s .kids r b hr hb);
     long = length-set a _ _ ∙ s .long;
   }
 
-  joined-sound : (k c : ℕ) (a : List ℕ) → Sound n m a → Sound n m (joined k c a)
+  joined-sound : (k c : ℕ) (a : List ℕ) → Bounded n m a → Bounded n m (joined k c a)
   unfolding joined
-  joined-sound k c a s = upto-keeps (orWord k c) (Sound n m) blocks a (λ w t l p. or-sound k c w t l p) s
+  joined-sound k c a s = upto-keeps (orWord k c) (Bounded n m) blocks a (λ w t l p. or-sound k c w t l p) s
 
-  pub child-sound : (k b : ℕ) (a : List ℕ) → Sound n m a → Sound n m (toChild k b a)
+  pub child-sound : (k b : ℕ) (a : List ℕ) → Bounded n m a → Bounded n m (toChild k b a)
   child-sound k b a s =
       ⊎-elim (λ e. rw (child-none k b a e) s) (λ l. rw (child-some k b a (λ e. omega arith)) (joined-sound k _ a s))
       (eq-zero-or-pos (getD a (recordWords * k + b) 0))
 
-  pub child-ready : (k b : ℕ) (a : List ℕ) → recordWords * n ≤ m → k < n → b < 2 → Sound n m a
+  pub child-ready : (k b : ℕ) (a : List ℕ) → recordWords * n ≤ m → k < n → b < 2 → Bounded n m a
       → (b < 2) × (recordWords * k + recordWords ≤ length a) × (recordWords * getD a (recordWords * k + b) 0 + recordWords ≤ length a)
   unfolding Kids
   child-ready k b a whole hk hb s = (hb, omega (arith, s .long), omega (arith, s .long, s .kids k b hk hb))

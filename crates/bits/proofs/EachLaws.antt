@@ -155,8 +155,8 @@ each-places p (x ∷ xs) (y ∷ ys) d e h =
     (each-places p xs ys d e (omega arith) ∙ sym (all-shift (λ f. p (getD (x ∷ xs) f d) (getD (y ∷ ys) f e)) 0 (length ys)))
 
 -- a list is what stands at its places
-pub listed : {A : Type 0} (l : List A) (d : A) → map (λ k. getD l k d) (upFrom 0 (length l)) ≡ l
-listed l d =
+pub by-places : {A : Type 0} (l : List A) (d : A) → map (λ k. getD l k d) (upFrom 0 (length l)) ≡ l
+by-places l d =
     let n = length l in
     let size = length-map (upFrom 0 n) (λ k. getD l k d) ∙ up-size 0 n in
     ext-getD d (map (λ k. getD l k d) (upFrom 0 n)) l size (λ i h. tabled (λ k. getD l k d) n i d (omega (arith, size)))

@@ -34,21 +34,21 @@ module _ (table area : List ℕ) where
   unfolding said
   plain = refl
 
-  pub build-refused : (r : Refusal) → said r ≡ verdict table → Builds table area (Refused r) area
+  pub refused-builds : (r : Refusal) → said r ≡ verdict table → Builds table area (Refused r) area
   unfolding builtSaid buildSaid areaLeft
-  build-refused r e =
+  refused-builds r e =
       let w = room-refused table area written ShortArea 7 (wordsNeeded table) (wordsNeeded table) plain r e in
       record { answer = w .0; lent = w .1 }
 
-  pub build-short : Accepted table → length area < wordsNeeded table → Builds table area (Refused ShortArea) area
+  pub short-builds : Accepted table → length area < wordsNeeded table → Builds table area (Refused ShortArea) area
   unfolding builtSaid buildSaid areaLeft
-  build-short ok h =
+  short-builds ok h =
       let w = room-short table area written ShortArea 7 (wordsNeeded table) (wordsNeeded table) plain ok h in
       record { answer = w .0; lent = w .1 }
 
-  pub build-done : Accepted table → wordsNeeded table ≤ length area → Builds table area (Done (wordsNeeded table)) written
+  pub done-builds : Accepted table → wordsNeeded table ≤ length area → Builds table area (Done (wordsNeeded table)) written
   unfolding builtSaid buildSaid areaLeft
-  build-done ok h =
+  done-builds ok h =
       let w = room-done table area written ShortArea 7 (wordsNeeded table) (wordsNeeded table) plain ok h in
       record { answer = w .0; lent = w .1 }
 

@@ -31,9 +31,9 @@ use Rattle.desk.specs.JudgeCall.{judgedSaid, orderSaid, outputSaid, cros
 use Rattle.desk.specs.Terms.{NoAction, UnknownAt, Matched}
 use Rattle.desk.proofs.SaidNumbers.{NotSaid, first-never, room-never, order-never, output-never, crossing-never}
 use Rattle.desk.proofs.LentLaws.{lent-refused, done-accepted}
-use Rattle.desk.proofs.BuildLaws.{build-refused}
-use Rattle.desk.proofs.PairsLaws.{pairs-refused}
-use Rattle.desk.proofs.JudgeLaws.{judge-refused}
+use Rattle.desk.proofs.BuildLaws.{refused-builds}
+use Rattle.desk.proofs.PairsLaws.{refused-pairs}
+use Rattle.desk.proofs.JudgeLaws.{refused-judges}
 use Rattle.desk.proofs.Determined.{build-one, pairs-one, judge-one}
 
 -- ---- what was lent
@@ -83,7 +83,7 @@ unfolding builtSaid buildSaid
 build-unknown {table} {area} b place = (
   λ e. unknown-at table place (roomSaid 7 (wordsNeeded table) area (wordsNeeded table))
       (room-never 5 7 (wordsNeeded table) area (wordsNeeded table) (λ q. omega arith) (λ q. omega arith)) (sym (b .answer) ∙ ap builtSaid e),
-  λ u. build-one b (build-refused table area (UnknownAction place) (at-unknown table place u)) .0,
+  λ u. build-one b (refused-builds table area (UnknownAction place) (at-unknown table place u)) .0,
 )
 
 pub pairs-unknown : {table list after : List ℕ} {r : paired.Paired} → Pairs table list r after
@@ -91,7 +91,7 @@ pub pairs-unknown : {table list after : List ℕ} {r : paired.Paired} → Pairs 
 unfolding pairedSaid pairsSaid
 pairs-unknown {table} {list} p place = (
   λ e. unknown-at table place _ (room-never 5 10 _ list (pairCount table) (λ q. omega arith) (λ q. omega arith)) (sym (p .answer) ∙ ap pairedSaid e),
-  λ u. pairs-one p (pairs-refused table list (UnknownAction place) (at-unknown table place u)) .0,
+  λ u. pairs-one p (refused-pairs table list (UnknownAction place) (at-unknown table place u)) .0,
 )
 
 pub judge-unknown : {table order output after : List ℕ} {r : judged.Judged} → Judges table order output r after
@@ -105,7 +105,7 @@ judge-unknown {table} {order} {output} j place =
           (first-never 5 (outputSaid table output) last (output-never 5 table output (λ q. omega arith) (λ q. omega arith))
           (crossing-never 5 (rulesOf table) (crossing (rulesOf table) order) (λ q. omega arith) (λ q. omega arith))))
           (sym (j .answer) ∙ ap judgedSaid e),
-      λ u. judge-one j (judge-refused table order output (UnknownAction place) (at-unknown table place u)) .0,
+      λ u. judge-one j (refused-judges table order output (UnknownAction place) (at-unknown table place u)) .0,
     )
 
 -- ---- nothing is done with an action that is not known

@@ -18,7 +18,7 @@ use Rattle.rules.specs.Table.{ruleCount, recordAt, rulesOf}
 use Rattle.rules.specs.Header.{headerValues}
 use Rattle.rules.specs.Match.{matches, ruleAt, firstMatch, falseBlocks}
 use Rattle.rules.proofs.ActionLaws.{known-one}
-use Rattle.rules.proofs.MatchLaws.{hit, First, match-told, first-match, no-match, rules-size, rules-at}
+use Rattle.rules.proofs.MatchLaws.{matchesAt, First, match-told, first-match, no-match, rules-size, rules-at}
 use Rattle.overlap.specs.Judge.{answerOf}
 use Rattle.area.specs.Shape.{blocks, deskShape}
 use Rattle.index.specs.Image.{image}
@@ -30,7 +30,7 @@ use Rattle.lookup.specs.declared.Outcome.the-variants.{NoMatch, Match}
 use Rattle.lookup.specs.Answer.{answerSaid}
 use Rattle.lookup.specs.InCode.{outcomeSaid, lookedSaid}
 use Rattle.lookup.proofs.LookedLaws.{looked-one, match-one, match-some}
-use Rattle.lookup.proofs.Demand2.{demand-2, answer-none, answer-match, answer-few}
+use Rattle.lookup.proofs.Demand2.{look-answer, answer-none, answer-match, answer-few}
 use Rattle.desk.specs.BuildCall.{wordsNeeded}
 use Rattle.desk.specs.LookCall.{Looks}
 use Rattle.desk.specs.Terms.{IsHeader, IsTable, Fits, NoneFits, Wins, IsIndex, Matched, Gets, Unmatched}
@@ -59,7 +59,7 @@ module _ {table area header : List ℕ} {r : Looked} (t : IsTable table) (x : Is
   answer o = Found (record { falses = falses; outcome = o })
 
   says : lookedSaid r ≡ answerSaid table header
-  says = l .answer ∙ demand-2 table (t .bytes) (t .accepted) header (h .bytes) (h .size) area (index-image x)
+  says = l .answer ∙ look-answer table (t .bytes) (t .accepted) header (h .bytes) (h .size) area (index-image x)
 
   -- what the first match is decides the answer
   abbrev Decides : Option ℕ → Type 0
@@ -71,7 +71,7 @@ module _ {table area header : List ℕ} {r : Looked} (t : IsTable table) (x : Is
   unfolding ruleOf
   acts place low = ap (λ (x : Rule). x .action) (rules-at table place (omega (arith, low .below, rules-size table)))
 
-  decides : (o : Option ℕ) → Told (hit rules values) (length rules) o → firstMatch rules values ≡ o → Decides o
+  decides : (o : Option ℕ) → Told (matchesAt rules values) (length rules) o → firstMatch rules values ≡ o → Decides o
   unfolding lookedSaid outcomeSaid
   decides none told e = looked-one r (answer NoMatch) (says ∙ answer-none table (t .accepted) header e)
   decides (some place) told e =
@@ -101,13 +101,13 @@ module _ {table area header : List ℕ} {r : Looked} (t : IsTable table) (x : Is
     passes = fits-at t (w .inside) h .0 (w .fits);
     first = λ j q.
         let below : j < ruleCount table = omega (arith, w .inside) in
-        refuted (hit rules values j) (λ e. w .lowest j q (fits-at t below h .1 e));
+        refuted (matchesAt rules values j) (λ e. w .lowest j q (fits-at t below h .1 e));
   }
 
   pub lookup-match : (place : ℕ) (action : Action) → Matched r place action ↔ Wins table header place action
   lookup-match place action = (go (firstMatch rules values) (match-told rules values) refl, back)
     where
-      go : (o : Option ℕ) → Told (hit rules values) (length rules) o → firstMatch rules values ≡ o → Matched r place action → Wins table header place action
+      go : (o : Option ℕ) → Told (matchesAt rules values) (length rules) o → firstMatch rules values ≡ o → Matched r place action → Wins table header place action
       go none told e m = absurd (match-some (sym (m .1) ∙ decides none told e))
       go (some p) told e m =
           let d = decides (some p) told e in
@@ -124,14 +124,14 @@ module _ {table area header : List ℕ} {r : Looked} (t : IsTable table) (x : Is
   pub lookup-none : Unmatched r ↔ NoneFits header table
   lookup-none = (go (firstMatch rules values) (match-told rules values) refl, back)
     where
-      go : (o : Option ℕ) → Told (hit rules values) (length rules) o → firstMatch rules values ≡ o → Unmatched r → NoneFits header table
+      go : (o : Option ℕ) → Told (matchesAt rules values) (length rules) o → firstMatch rules values ≡ o → Unmatched r → NoneFits header table
       go none told e u = λ place below. not-fits place below (told place (omega (arith, rules-size table)))
       go (some p) told e u = absurd (match-some (sym (decides (some p) told e .2) ∙ u .1))
 
       back : NoneFits header table → Unmatched r
       back none-fits =
-          let never : Never (hit rules values) (length rules) =
-          λ j q. refuted (hit rules values j) (λ e. none-fits j (inside j q) (fits-at t (inside j q) h .1 e))
+          let never : Never (matchesAt rules values) (length rules) =
+          λ j q. refuted (matchesAt rules values j) (λ e. none-fits j (inside j q) (fits-at t (inside j q) h .1 e))
           in
           (falses, decides none never (no-match rules values never))
 
@@ -144,7 +144,7 @@ module _ {table area header : List ℕ} {r : Looked} (t : IsTable table) (x : Is
       few : falses ≤ blocks
       few = answer-few table (t .accepted) header
 
-      go : (o : Option ℕ) → Told (hit rules values) (length rules) o → firstMatch rules values ≡ o
+      go : (o : Option ℕ) → Told (matchesAt rules values) (length rules) o → firstMatch rules values ≡ o
           → (a : Answer) × (r ≡ Found a) × (a .falses ≡ falses) × (a .falses ≤ blocks)
       go none told e = (record { falses = falses; outcome = NoMatch }, decides none told e, refl, few)
       go (some p) told e =
@@ -157,7 +157,7 @@ module _ {table area header : List ℕ} {r : Looked} (t : IsTable table) (x : Is
   unfolding answerOf
   gets-answer action = go (firstMatch rules values) (match-told rules values) refl
     where
-      go : (o : Option ℕ) → Told (hit rules values) (length rules) o → firstMatch rules values ≡ o
+      go : (o : Option ℕ) → Told (matchesAt rules values) (length rules) o → firstMatch rules values ≡ o
           → Gets r action ↔ (Option·map (λ place. ruleAt rules place .action) o ≡ some (Known action))
       go none told e = (
         λ g. absurd (match-some (sym (g .1 .1) ∙ decides none told e)),
@@ -174,7 +174,7 @@ module _ {table area header : List ℕ} {r : Looked} (t : IsTable table) (x : Is
   unfolding answerOf
   unmatched-answer = go (firstMatch rules values) (match-told rules values) refl
     where
-      go : (o : Option ℕ) → Told (hit rules values) (length rules) o → firstMatch rules values ≡ o
+      go : (o : Option ℕ) → Told (matchesAt rules values) (length rules) o → firstMatch rules values ≡ o
           → Unmatched r ↔ (Option·map (λ place. ruleAt rules place .action) o ≡ none)
       go none told e = (λ u. refl, λ q. (falses, decides none told e))
       go (some p) told e = (λ u. absurd (match-some (sym (decides (some p) told e .2) ∙ u .1)), λ q. absurd (Option·some-ne-none _ q))

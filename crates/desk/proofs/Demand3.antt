@@ -37,7 +37,7 @@ use Rattle.desk.specs.Terms.{IsTable, IsOrder, NoneTurned}
 use Rattle.desk.proofs.TermLaws.{clash-at}
 use Rattle.desk.proofs.LentLaws.{first-last, done-accepted, done-written}
 use Rattle.desk.proofs.Reasons.{is-order}
-use Rattle.desk.proofs.JudgeLaws.{judge-crossed, judge-allowed}
+use Rattle.desk.proofs.JudgeLaws.{crossed-judges, allowed-judges}
 use Rattle.desk.proofs.Determined.{judge-one}
 
 -- ---- what an allowed move was
@@ -112,7 +112,7 @@ module _ {table o output : List ℕ} (ok : Accepted table) (ordered : isOrder (r
     {r : judged.Judged} {after : List ℕ} (j : Judges table o output r after) where
   allowed-judged : judge.Allowed (rulesOf table) o → r ≡ Allowed
   unfolding foundTold
-  allowed-judged a = judge-one j (judge-allowed table o output ok ordered room (sym (ap (foundTold (rulesOf table)) a))) .0
+  allowed-judged a = judge-one j (allowed-judges table o output ok ordered room (sym (ap (foundTold (rulesOf table)) a))) .0
 
   -- the pair that stands in the way, with its lowest shared header
   crossed-judged : (p : Pair) → judge.crossing (rulesOf table) o ≡ some p → (c : Crossing) × (r ≡ judged.the-variants.Refused (NotAllowed c))
@@ -129,7 +129,7 @@ module _ {table o output : List ℕ} (ok : Accepted table) (ordered : isOrder (r
       let told : crossingTold c ≡ foundTold (rulesOf table) (judge.crossing (rulesOf table) o) =
       ap (λ (vs : List ℕ). p .lower ∷ p .higher ∷ vs) shown ∙ sym (ap (foundTold (rulesOf table)) e)
       in
-      (c, judge-one j (judge-crossed table o output ok ordered room c told) .0)
+      (c, judge-one j (crossed-judges table o output ok ordered room c told) .0)
 
 -- two rules that clash keep their order: by places of the table, and by rules
 kept-turned : {table : List ℕ} → IsTable table → (o : List ℕ) → Kept (rulesOf table) o ↔ NoneTurned table o

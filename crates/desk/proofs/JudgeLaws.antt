@@ -62,9 +62,9 @@ module _ (table order output : List ℕ) where
       let w = lent-refused r (judgeSaid table order output) written output e in
       record { answer = w .0; lent = w .1 }
 
-  pub judge-refused : (r : Refusal) → said r ≡ verdict table → Judges table order output (Refused r) output
+  pub refused-judges : (r : Refusal) → said r ≡ verdict table → Judges table order output (Refused r) output
   unfolding judgeSaid
-  judge-refused r e =
+  refused-judges r e =
       let rest = firstRefusal (orderSaid table order) (firstRefusal (outputSaid table output) last) in
       refuses r (ap (λ (vs : List ℕ). firstRefusal vs rest) (sym e) ∙ refused-first r rest)
 
@@ -73,18 +73,18 @@ module _ (table order output : List ℕ) where
     unfolding judgeSaid firstRefusal
     past-table = ap (λ (vs : List ℕ). firstRefusal vs (firstRefusal (orderSaid table order) (firstRefusal (outputSaid table output) last))) ok
 
-    pub judge-no-order : isOrder (ruleCount table) order ≡ false → Judges table order output (Refused NotAnOrder) output
+    pub no-order-judges : isOrder (ruleCount table) order ≡ false → Judges table order output (Refused NotAnOrder) output
     unfolding orderSaid firstRefusal said
-    judge-no-order e = refuses NotAnOrder (past-table ∙ rw e)
+    no-order-judges e = refuses NotAnOrder (past-table ∙ rw e)
 
     module _ (ordered : isOrder (ruleCount table) order ≡ true) where
       pub past-order : judgeSaid table order output ≡ firstRefusal (outputSaid table output) last
       unfolding orderSaid firstRefusal
       past-order = past-table ∙ rw ordered
 
-      pub judge-short : length output < length table → Judges table order output (Refused ShortOutput) output
+      pub short-judges : length output < length table → Judges table order output (Refused ShortOutput) output
       unfolding outputSaid firstRefusal said
-      judge-short h = refuses ShortOutput (past-order ∙ rw (lt-ltb (length output) (length table) h))
+      short-judges h = refuses ShortOutput (past-order ∙ rw (lt-ltb (length output) (length table) h))
 
       module _ (room : length table ≤ length output) where
         pub past-output : judgeSaid table order output ≡ last
@@ -94,11 +94,11 @@ module _ (table order output : List ℕ) where
         says-told : judgeSaid table order output ≡ saidOf told
         says-told = past-output ∙ told-said (rulesOf table) (crossing (rulesOf table) order)
 
-        pub judge-crossed : (c : Crossing) → crossingTold c ≡ told → Judges table order output (Refused (NotAllowed c)) output
-        judge-crossed c e = refuses (NotAllowed c) (says-told ∙ ap saidOf (sym e) ∙ crossing-said c)
+        pub crossed-judges : (c : Crossing) → crossingTold c ≡ told → Judges table order output (Refused (NotAllowed c)) output
+        crossed-judges c e = refuses (NotAllowed c) (says-told ∙ ap saidOf (sym e) ∙ crossing-said c)
 
-        pub judge-allowed : [] ≡ told → Judges table order output Allowed written
+        pub allowed-judges : [] ≡ told → Judges table order output Allowed written
         unfolding judgedSaid judgeLeft saidOf
-        judge-allowed e =
+        allowed-judges e =
             let done : judgeSaid table order output ≡ 0 ∷ [] = says-told ∙ ap saidOf (sym e) in
             record { answer = sym done; lent = sym (done-written (judgeSaid table order output) written output [] done) }

@@ -22,20 +22,20 @@ module _ (table list : List ℕ) where
   unfolding said
   plain = refl
 
-  pub pairs-refused : (r : Refusal) → said r ≡ verdict table → Pairs table list (Refused r) list
+  pub refused-pairs : (r : Refusal) → said r ≡ verdict table → Pairs table list (Refused r) list
   unfolding pairedSaid pairsSaid pairsLeft
-  pairs-refused r e =
+  refused-pairs r e =
       let w = room-refused table list written ShortList 10 (2 * pairCount table) (pairCount table) plain r e in
       record { answer = w .0; lent = w .1 }
 
-  pub pairs-short : Accepted table → length list < 2 * pairCount table → Pairs table list (Refused ShortList) list
+  pub short-pairs : Accepted table → length list < 2 * pairCount table → Pairs table list (Refused ShortList) list
   unfolding pairedSaid pairsSaid pairsLeft
-  pairs-short ok h =
+  short-pairs ok h =
       let w = room-short table list written ShortList 10 (2 * pairCount table) (pairCount table) plain ok h in
       record { answer = w .0; lent = w .1 }
 
-  pub pairs-listed : Accepted table → 2 * pairCount table ≤ length list → Pairs table list (Listed (pairCount table)) written
+  pub listed-pairs : Accepted table → 2 * pairCount table ≤ length list → Pairs table list (Listed (pairCount table)) written
   unfolding pairedSaid pairsSaid pairsLeft
-  pairs-listed ok h =
+  listed-pairs ok h =
       let w = room-done table list written ShortList 10 (2 * pairCount table) (pairCount table) plain ok h in
       record { answer = w .0; lent = w .1 }

@@ -43,14 +43,14 @@ not-done why e = let k = numbered why in omega (arith, head-eq-of-cons-eq (e ∙
 
 module _ {table : List ℕ} {why : Refusal} where
   pub build-judges : {area after : List ℕ} {r : built.Built} → Builds table area r after → said why ≡ verdict table → r ≡ built.the-variants.Refused why
-  build-judges {area} b e = build-one b (building.build-refused table area why e) .0
+  build-judges {area} b e = build-one b (building.refused-builds table area why e) .0
 
   pub pairs-judges : {list after : List ℕ} {r : paired.Paired} → Pairs table list r after → said why ≡ verdict table → r ≡ paired.the-variants.Refused why
-  pairs-judges {list} p e = pairs-one p (pairing.pairs-refused table list why e) .0
+  pairs-judges {list} p e = pairs-one p (pairing.refused-pairs table list why e) .0
 
   pub judge-judges : {order output after : List ℕ} {r : judged.Judged} → Judges table order output r after → said why ≡ verdict table
       → r ≡ judged.the-variants.Refused why
-  judge-judges {order} {output} j e = judge-one j (judging.judge-refused table order output why e) .0
+  judge-judges {order} {output} j e = judge-one j (judging.refused-judges table order output why e) .0
 
 -- ---- room
 
@@ -67,8 +67,8 @@ module _ {table area after : List ℕ} {r : built.Built} (t : IsTable table) (b 
       × ((r ≡ built.the-variants.Done (wordsNeeded table)) ↔ (wordsNeeded table ≤ length area))
   unfolding builtSaid
   build-room =
-      room-exact (length area) (wordsNeeded table) (λ h. build-one b (building.build-short table area (t .accepted) h) .0)
-      (λ h. build-one b (building.build-done table area (t .accepted) h) .0) (λ e. not-done ShortArea (ap builtSaid e))
+      room-exact (length area) (wordsNeeded table) (λ h. build-one b (building.short-builds table area (t .accepted) h) .0)
+      (λ h. build-one b (building.done-builds table area (t .accepted) h) .0) (λ e. not-done ShortArea (ap builtSaid e))
 
   pub build-short : (r ≡ built.the-variants.Refused ShortArea) ↔ (length area < wordsNeeded table)
   build-short = build-room .0
@@ -81,8 +81,8 @@ module _ {table list after : List ℕ} {r : paired.Paired} (t : IsTable table) (
       × ((r ≡ paired.the-variants.Listed (pairCount table)) ↔ (2 * pairCount table ≤ length list))
   unfolding pairedSaid
   pairs-room =
-      room-exact (length list) (2 * pairCount table) (λ h. pairs-one p (pairing.pairs-short table list (t .accepted) h) .0)
-      (λ h. pairs-one p (pairing.pairs-listed table list (t .accepted) h) .0) (λ e. not-done ShortList (ap pairedSaid e))
+      room-exact (length list) (2 * pairCount table) (λ h. pairs-one p (pairing.short-pairs table list (t .accepted) h) .0)
+      (λ h. pairs-one p (pairing.listed-pairs table list (t .accepted) h) .0) (λ e. not-done ShortList (ap pairedSaid e))
 
   pub pairs-short : (r ≡ paired.the-variants.Refused ShortList) ↔ (length list < 2 * pairCount table)
   pairs-short = pairs-room .0
@@ -116,7 +116,7 @@ module _ {table order output after : List ℕ} {r : judged.Judged} (t : IsTable 
   unfolding said
   judge-no-order =
       exactly (⊎-elim (λ e. inr e) (λ e. inl (λ x. clash (is-order table order .0 x) e)) (decided (isOrder (ruleCount table) order)))
-      (λ no. judge-one j (judging.judge-no-order table order output (t .accepted) (refuted (isOrder (ruleCount table) order) (λ e. no (is-order table order .1 e)))) .0)
+      (λ no. judge-one j (judging.no-order-judges table order output (t .accepted) (refuted (isOrder (ruleCount table) order) (λ e. no (is-order table order .1 e)))) .0)
       (λ ordered e.
       first-never 11 (outputSaid table output) last (output-never 11 table output (λ q. omega arith) (λ q. omega arith))
       (crossing-never 11 rules (crossing rules order) (λ q. omega arith) (λ q. omega arith))
@@ -127,7 +127,7 @@ module _ {table order output after : List ℕ} {r : judged.Judged} (t : IsTable 
   judge-short x =
       let ordered = is-order table order .0 x in
       exactly (less (length output) (length table))
-      (λ h. judge-one j (judging.judge-short table order output (t .accepted) ordered h) .0)
+      (λ h. judge-one j (judging.short-judges table order output (t .accepted) ordered h) .0)
       (λ room e.
       crossing-never 12 rules (crossing rules order) (λ q. omega arith) (λ q. omega arith)
       (sym (answered e (judging.past-output table order output (t .accepted) ordered room))))

@@ -13,7 +13,7 @@ use lib.Seq.{getD-drop, getD-append-add, ext-getD, take-all}
 use Rattle.bits.specs.Word.{digit, wordOf, pack, nonzero, aggregate}
 use Rattle.bits.specs.Tests.{upFrom}
 use Rattle.bits.proofs.TestLaws.{less}
-use Rattle.bits.proofs.EachLaws.{listed}
+use Rattle.bits.proofs.EachLaws.{by-places}
 use Rattle.bits.proofs.PlaceLaws.{places-agree}
 use Rattle.rules.specs.Rule.{Rule}
 use Rattle.rules.specs.Table.{ruleCount, rulesOf}
@@ -86,7 +86,7 @@ module _ (table : List ℕ) (sound : AllSound table) (few : ruleCount table ≤ 
       ∙ ap wordOf
       (places-agree (λ (w : ℕ). nonzero (vectorWord handedArea i w)) (λ (w : ℕ). nonzero (getD words w 0)) blocks (λ w small. ap nonzero (vectors i h w small))
       ∙ sym (map-map nonzero (λ (w : ℕ). getD words w 0) (upFrom 0 blocks))
-      ∙ ap (map nonzero) (ap (λ (n : ℕ). map (λ (w : ℕ). getD words w 0) (upFrom 0 n)) (sym eight) ∙ listed words 0)
+      ∙ ap (map nonzero) (ap (λ (n : ℕ). map (λ (w : ℕ). getD words w 0) (upFrom 0 n)) (sym eight) ∙ by-places words 0)
       ∙ sym (take-all 32 (map nonzero words) (omega (arith, length-map words nonzero, eight))))
 
   -- ---- every word

@@ -45,9 +45,9 @@ module _ (S : Shape) (sized : Sized S) (rules : List Rule) where
   unfolding vector
   length-summary k = sized (map (hit k) rules)
 
-  pub length-record : (ks : List Key) (k : Key) → length (recordOf S rules ks k) ≡ width S
+  pub length-recordOf : (ks : List Key) (k : Key) → length (recordOf S rules ks k) ≡ width S
   unfolding recordOf
-  length-record ks k =
+  length-recordOf ks k =
       omega (arith, length-append (S .summary (vector S rules k)) (vector S rules k), length-summary k, length-vector S rules k)
 
   pub record-summary : (ks : List Key) (k : Key) → take (S .summaries) (drop 2 (recordOf S rules ks k)) ≡ S .summary (vector S rules k)
@@ -64,7 +64,7 @@ module _ (S : Shape) (sized : Sized S) (rules : List Rule) where
 
   records-wide : (ks : List Key) → Rows (width S) (map (recordOf S rules ks) ks)
   records-wide ks i h =
-      rw (getD-map (recordOf S rules ks) ks i [] noKey (rw length-map at h)) (length-record ks (getD ks i noKey))
+      rw (getD-map (recordOf S rules ks) ks i [] noKey (rw length-map at h)) (length-recordOf ks (getD ks i noKey))
 
   -- the image has the words needed
   pub length-image : length (image S rules) ≡ need S rules

@@ -84,9 +84,9 @@ parented-grow k (b ∷ p) ks parent P =
     parented-grow l p (grown ks l) (grown-hasRecord l ks l ∙ or-right (hasRecord l ks) (sameKey l l) (sameKey-refl l)) (parented-grown ks k b parent P)
 
 -- the keys are of n fields
-abbrev pub Within : ℕ → List Key → Type 0
-Within n [] = Unit {0}
-Within n (k ∷ ks) = (k .field < n) × Within n ks
+abbrev pub KeysWithin : ℕ → List Key → Type 0
+KeysWithin n [] = Unit {0}
+KeysWithin n (k ∷ ks) = (k .field < n) × KeysWithin n ks
 
 pub rooted-insert : (n : ℕ) (ks : List Key) (k : Key) → Rooted n ks → Rooted n (insert ks k)
 unfolding insert
@@ -98,39 +98,39 @@ parented-insert n ks k h rooted =
     let root = at (k .field) [] in
     parented-grow root (k .path) ks (stands-hasRecord ks (k .field) root (rooted (k .field) h))
 
-pub parented-insertAll : (n : ℕ) (ks new : List Key) → Within n new → Rooted n ks → Parented ks → Parented (insertAll ks new)
+pub parented-insertAll : (n : ℕ) (ks new : List Key) → KeysWithin n new → Rooted n ks → Parented ks → Parented (insertAll ks new)
 unfolding insertAll
 parented-insertAll n ks [] w rooted P = P
 parented-insertAll n ks (k ∷ new) w rooted P =
     parented-insertAll n (insert ks k) new (w .1) (rooted-insert n ks k rooted) (parented-insert n ks k (w .0) rooted P)
 
-within-append : (n : ℕ) (l m : List Key) → Within n l → Within n m → Within n (l ++ m)
+within-append : (n : ℕ) (l m : List Key) → KeysWithin n l → KeysWithin n m → KeysWithin n (l ++ m)
 within-append n [] m w v = v
 within-append n (k ∷ l) m w v = (w .0, within-append n l m (w .1) v)
 
-within-field : (n f : ℕ) → f < n → (ps : List Path) → Within n (map (at f) ps)
+within-field : (n f : ℕ) → f < n → (ps : List Path) → KeysWithin n (map (at f) ps)
 within-field n f h [] = tt
 within-field n f h (p ∷ ps) = (h, within-field n f h ps)
 
-within-rule : (n f m : ℕ) (r : Rule) → f + m ≤ n → Within n (ruleInserts f m r)
+within-rule : (n f m : ℕ) (r : Rule) → f + m ≤ n → KeysWithin n (ruleInserts f m r)
 unfolding ruleInserts
 within-rule n f zero r h = tt
 within-rule n f (suc m) r h =
     within-append n (map (at f) (pathsIn r f)) (ruleInserts (suc f) m r)
     (within-field n f (omega arith) (pathsIn r f)) (within-rule n (suc f) m r (omega arith))
 
-pub within-inserts : (n : ℕ) (rules : List Rule) → Within n (inserts n rules)
+pub within-inserts : (n : ℕ) (rules : List Rule) → KeysWithin n (inserts n rules)
 unfolding inserts
 within-inserts n [] = tt
 within-inserts n (r ∷ rules) =
     within-append n (ruleInserts 0 n r) (inserts n rules) (within-rule n 0 n r (omega arith)) (within-inserts n rules)
 
-within-steps : (n f : ℕ) → f < n → (q p : Path) → Within n (stepsFrom f q p)
+within-steps : (n f : ℕ) → f < n → (q p : Path) → KeysWithin n (stepsFrom f q p)
 unfolding stepsFrom
 within-steps n f h q [] = tt
 within-steps n f h q (b ∷ p) = (h, within-steps n f h (q ++ (b ∷ [])) p)
 
-within-grow : (n : ℕ) (ks new : List Key) → Within n ks → Within n new → Within n (grow ks new)
+within-grow : (n : ℕ) (ks new : List Key) → KeysWithin n ks → KeysWithin n new → KeysWithin n (grow ks new)
 unfolding grow
 within-grow n ks [] w v = w
 within-grow n ks (k ∷ new) w v =
@@ -138,17 +138,17 @@ within-grow n ks (k ∷ new) w v =
     (⊎-elim (λ e. rw (grown-old ks k e) w) (λ e. rw (grown-new ks k e) (within-append n ks (k ∷ []) w (v .0, tt))) (decided (hasRecord k ks)))
     (v .1)
 
-within-insertAll : (n : ℕ) (ks new : List Key) → Within n ks → Within n new → Within n (insertAll ks new)
+within-insertAll : (n : ℕ) (ks new : List Key) → KeysWithin n ks → KeysWithin n new → KeysWithin n (insertAll ks new)
 unfolding insertAll insert
 within-insertAll n ks [] w v = w
 within-insertAll n ks (k ∷ new) w v = within-insertAll n (insert ks k) new (within-grow n ks (stepsFrom (k .field) [] (k .path)) w (within-steps n (k .field) (v .0) [] (k .path))) (v .1)
 
-within-roots : (n f m : ℕ) → f + m ≤ n → Within n (rootsFrom f m)
+within-roots : (n f m : ℕ) → f + m ≤ n → KeysWithin n (rootsFrom f m)
 unfolding rootsFrom
 within-roots n f zero h = tt
 within-roots n f (suc m) h = (omega arith, within-roots n (suc f) m (omega arith))
 
-within-at : (n : ℕ) (ks : List Key) → Within n ks → (i : ℕ) (k : Key) → Stands ks i k → k .field < n
+within-at : (n : ℕ) (ks : List Key) → KeysWithin n ks → (i : ℕ) (k : Key) → Stands ks i k → k .field < n
 within-at n [] w i k s = absurd (omega (arith, s .inside))
 within-at n (l ∷ ks) w zero k s = subst (λ (m : Key). m .field < n) (s .there) (w .0)
 within-at n (l ∷ ks) w (suc i) k s = within-at n ks (w .1) i k (record { inside = omega (arith, s .inside); there = s .there })
@@ -171,30 +171,30 @@ keys-parented n rules = parented-insertAll n (rootsFrom 0 n) (inserts n rules) (
 
 module _ (k : Key) where
   -- a key of the list keeps its place, whatever comes behind
-  pub place-old : (n : ℕ) (ks more : List Key) → hasRecord k ks ≡ true → placeFrom n k (ks ++ more) ≡ placeFrom n k ks
+  pub key-place-old : (n : ℕ) (ks more : List Key) → hasRecord k ks ≡ true → placeFrom n k (ks ++ more) ≡ placeFrom n k ks
   unfolding hasRecord any
-  place-old n [] more e = absurd (false≢true e)
-  place-old n (l ∷ ks) more e =
+  key-place-old n [] more e = absurd (false≢true e)
+  key-place-old n (l ∷ ks) more e =
       ⊎-elim
       (λ s. place-here n k l (ks ++ more) s ∙ sym (place-here n k l ks s))
-      (λ s. place-later n k l (ks ++ more) s ∙ place-old (suc n) ks more (rw s at e) ∙ sym (place-later n k l ks s))
+      (λ s. place-later n k l (ks ++ more) s ∙ key-place-old (suc n) ks more (rw s at e) ∙ sym (place-later n k l ks s))
       (decided (sameKey k l))
 
   -- any other has the place that it has behind
-  pub place-new : (n : ℕ) (ks more : List Key) → hasRecord k ks ≡ false → placeFrom n k (ks ++ more) ≡ placeFrom (n + length ks) k more
+  pub key-place-new : (n : ℕ) (ks more : List Key) → hasRecord k ks ≡ false → placeFrom n k (ks ++ more) ≡ placeFrom (n + length ks) k more
   unfolding hasRecord any
-  place-new n [] more e = rw add-zero
-  place-new n (l ∷ ks) more e =
+  key-place-new n [] more e = rw add-zero
+  key-place-new n (l ∷ ks) more e =
       let s = or-falses (sameKey k l) (hasRecord k ks) e in
       let sum : suc n + length ks ≡ n + suc (length ks) = omega arith in
-      place-later n k l (ks ++ more) (s .0) ∙ place-new (suc n) ks more (s .1) ∙ ap (λ (m : ℕ). placeFrom m k more) sum
+      place-later n k l (ks ++ more) (s .0) ∙ key-place-new (suc n) ks more (s .1) ∙ ap (λ (m : ℕ). placeFrom m k more) sum
 
   pub place-snoc : (n : ℕ) (ks : List Key) → hasRecord k ks ≡ false → placeFrom n k (ks ++ (k ∷ [])) ≡ n + length ks
-  place-snoc n ks e = place-new n ks (k ∷ []) e ∙ place-here (n + length ks) k k [] (sameKey-refl k)
+  place-snoc n ks e = key-place-new n ks (k ∷ []) e ∙ place-here (n + length ks) k k [] (sameKey-refl k)
 
   pub place-other : (n : ℕ) (ks : List Key) (l : Key) → sameKey k l ≡ false → placeFrom n k (ks ++ (l ∷ [])) ≡ placeFrom n k ks
   unfolding placeFrom
   place-other n ks l other =
-      ⊎-elim (place-old n ks (l ∷ []))
-      (λ e. place-new n ks (l ∷ []) e ∙ place-later (n + length ks) k l [] other ∙ sym (place-out k n ks e))
+      ⊎-elim (key-place-old n ks (l ∷ []))
+      (λ e. key-place-new n ks (l ∷ []) e ∙ place-later (n + length ks) k l [] other ∙ sym (place-out k n ks e))
       (decided (hasRecord k ks))

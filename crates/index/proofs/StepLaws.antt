@@ -12,7 +12,7 @@ use Rattle.area.specs.Shape.{recordWords}
 use Rattle.area.specs.Upto.{upto}
 use Rattle.area.specs.Grow.{zeroed, State, mk, walked, inserted, Kids, Ready, Roomy}
 use Rattle.area.proofs.ZeroLaws.{length-zeroed, zeroed-inside}
-use Rattle.area.proofs.GrowLaws.{walked-le, walked-ready, bit-kids, bit-length, Kept, Good, upto-good}
+use Rattle.area.proofs.GrowLaws.{walked-le, walked-ready, bit-kids, bit-length, StateKept, Good, upto-good}
 use Rattle.index.specs.Steps.{fieldIn, ruleIn, rulesIn, cleared, allIn}
 
 -- a field's root may be stood at
@@ -58,7 +58,7 @@ pub rules-good : (table : List ℕ) → ruleCount table ≤ 256 → (i : ℕ) �
 rules-good table h i hi = rule-good (recordAt table i) i (omega arith)
 
 -- the five cleared roots are ready
-pub cleared-ready : (a : List ℕ) → 5 * recordWords ≤ length a → Kept (mk a 0 5) (cleared a)
+pub cleared-ready : (a : List ℕ) → 5 * recordWords ≤ length a → StateKept (mk a 0 5) (cleared a)
 unfolding cleared Kids
 cleared-ready a h = record {
   ready = record {

@@ -129,7 +129,8 @@ module _ (table : List ℕ) (b : Bytes table) (sound : Accepted table) (header :
         said-match table falses place (lt-ltb place (ruleCount table) inside)
         ∙ ap (λ (r : Rule). matchSaid falses place (r .action)) (sym (rules-at table place inside))
 
-    look-answer : lookSaid table area header ≡ answerSaid table header
+    -- over the index of an accepted table, unchanged, the steps say what table and header fix
+    pub look-answer : lookSaid table area header ≡ answerSaid table header
     unfolding stepsSaid answerSaid rulesAnswer
     look-answer =
         let s = accepted-sound table sound in
@@ -137,11 +138,6 @@ module _ (table : List ℕ) (b : Bytes table) (sound : Accepted table) (header :
         (le-ltb mostRules (ruleCount table) (s .few)) (le-ltb (length area) leastWords enough)
         ∙ ap (stepsSaid table) steps-found
         ∙ said-same (firstMatch rules values) (match-told rules values) (falseBlocks 32 blocks rules values)
-
--- over the index of an accepted table, unchanged, the steps say what table and header fix
-pub demand-2 : (table : List ℕ) → Bytes table → Accepted table → (header : List ℕ) → Bytes header → length header ≡ 13 → (area : List ℕ)
-    → take (need deskShape (rulesOf table)) area ≡ image deskShape (rulesOf table) → lookSaid table area header ≡ answerSaid table header
-demand-2 = look-answer
 
 -- ---- the answer is done
 

@@ -23,7 +23,7 @@ use Rattle.index.specs.Key.{Key, hit}
 use Rattle.index.specs.Keys.{keys}
 use Rattle.index.specs.Image.{vector, image}
 use Rattle.index.proofs.KeyLaws.{Stands}
-use Rattle.index.proofs.OrderLaws.{Within}
+use Rattle.index.proofs.OrderLaws.{KeysWithin}
 use Rattle.index.proofs.ImageLaws.{record-summary, record-vector}
 use Rattle.lookup.specs.Walk.{ends, summariesAt, vectorAt}
 use Rattle.lookup.specs.Scan.{Found, found, meet, resolve}
@@ -162,7 +162,7 @@ module _ (S : Shape) (lawful : Lawful S) (rules : List Rule) where
       overs : map (summariesAt S area) rows ≡ map (λ k. S .summary (vector S rules k)) ks
       vectors : map (vectorAt S area) rows ≡ map (vector S rules) ks
 
-    ends-reached : (ks : List Key) → Within (S .fields) ks → Reached ks (ends S area ks)
+    ends-reached : (ks : List Key) → KeysWithin (S .fields) ks → Reached ks (ends S area ks)
     unfolding ends
     ends-reached [] w = record { rows = []; there = refl; overs = refl; vectors = refl }
     ends-reached (k ∷ ks) w =
@@ -177,7 +177,7 @@ module _ (S : Shape) (lawful : Lawful S) (rules : List Rule) where
         }
 
     -- the steps find what the rules fix
-    pub steps-held : (k : Key) (ks : List Key) → Within (S .fields) (k ∷ ks) → length rules ≤ S .blocks * S .size
+    pub steps-held : (k : Key) (ks : List Key) → KeysWithin (S .fields) (k ∷ ks) → length rules ≤ S .blocks * S .size
         → lookupSteps S area (k ∷ ks) ≡ some (keysFound S rules (k ∷ ks))
     unfolding lookupSteps
     steps-held k ks w fits =
@@ -185,12 +185,12 @@ module _ (S : Shape) (lawful : Lawful S) (rules : List Rule) where
         rw (e .there, lookupSteps) (ap some (ap₂ (resolve S) (e .overs) (e .vectors) ∙ resolve-held k ks fits))
 
   -- over an area that starts with the image, whoever wrote it
-  pub steps-image : (n : ℕ) (area : List ℕ) → take n area ≡ image S rules → (k : Key) (ks : List Key) → Within (S .fields) (k ∷ ks)
+  pub steps-image : (n : ℕ) (area : List ℕ) → take n area ≡ image S rules → (k : Key) (ks : List Key) → KeysWithin (S .fields) (k ∷ ks)
       → length rules ≤ S .blocks * S .size → lookupSteps S area (k ∷ ks) ≡ some (keysFound S rules (k ∷ ks))
   steps-image n area e = steps-held area (image-indexed S (lawful .sized) rules n area e)
 
 -- so with a second level of aggregation over 128 words: 4096 rules
 pub wide-steps : (rules : List Rule) → length rules ≤ 4096 → (n : ℕ) (area : List ℕ) → take n area ≡ image (twoLevel 5 32 4) rules
-    → (k : Key) (ks : List Key) → Within 5 (k ∷ ks) → lookupSteps (twoLevel 5 32 4) area (k ∷ ks) ≡ some (keysFound (twoLevel 5 32 4) rules (k ∷ ks))
+    → (k : Key) (ks : List Key) → KeysWithin 5 (k ∷ ks) → lookupSteps (twoLevel 5 32 4) area (k ∷ ks) ≡ some (keysFound (twoLevel 5 32 4) rules (k ∷ ks))
 wide-steps rules few n area e k ks w =
     steps-image (twoLevel 5 32 4) (two-lawful 5 32 4 (omega arith) (omega arith)) rules n area e k ks w few

@@ -33,9 +33,9 @@ module _ (table : List ℕ) (falses : ℕ) where
     unfolding foundSaid
     said-match e = rw e
 
-    pub said-unknown : ltb place (ruleCount table) ≡ true → actionIn (recordAt table place) ≡ Unknown → foundSaid table (found (some place) falses) ≡ 5 ∷ place ∷ []
+    pub said-no-action : ltb place (ruleCount table) ≡ true → actionIn (recordAt table place) ≡ Unknown → foundSaid table (found (some place) falses) ≡ 5 ∷ place ∷ []
     unfolding foundSaid matchSaid
-    said-unknown e f = rw (e, f)
+    said-no-action e f = rw (e, f)
 
     pub said-known : (a : Action) → ltb place (ruleCount table) ≡ true → actionIn (recordAt table place) ≡ Known a
         → foundSaid table (found (some place) falses) ≡ 0 ∷ falses ∷ 1 ∷ place ∷ actionValues a

@@ -19,7 +19,7 @@ use Rattle.rules.proofs.TableLaws.{length-record, accepted-sound}
 use Rattle.rules.proofs.RuleLaws.{value-small, agreement}
 use Rattle.rules.proofs.MatchLaws.{rules-size, rules-at, record-bytes, matches-in}
 use Rattle.index.specs.Key.{Key, at, hit}
-use Rattle.index.proofs.OrderLaws.{Within}
+use Rattle.index.proofs.OrderLaws.{KeysWithin}
 use Rattle.lookup.specs.Look.{keysFrom, headerKeys, widths}
 use Rattle.lookup.proofs.HeldLaws.{hitAll}
 
@@ -34,12 +34,12 @@ unfolding headerKeys keysFrom headerValues upFrom
 keys-in header = refl
 
 -- they are of the five fields
-keys-up : (values : List ℕ) (n k m : ℕ) → k + m ≤ n → Within n (map (keyIn values) (upFrom k m))
+keys-up : (values : List ℕ) (n k m : ℕ) → k + m ≤ n → KeysWithin n (map (keyIn values) (upFrom k m))
 unfolding upFrom
 keys-up values n k zero h = tt
 keys-up values n k (suc m) h = (omega arith, keys-up values n (suc k) m (omega arith))
 
-pub keys-within : (values : List ℕ) → Within 5 (map (keyIn values) (upFrom 0 5))
+pub keys-within : (values : List ℕ) → KeysWithin 5 (map (keyIn values) (upFrom 0 5))
 keys-within values = keys-up values 5 0 5 (omega arith)
 
 -- ---- an accepted table and a header

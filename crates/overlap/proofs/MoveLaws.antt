@@ -17,7 +17,7 @@ use Rattle.rules.proofs.OverlapLaws.{share-exact}
 use Rattle.overlap.specs.Order.{isOrder, oldPlace, newPlace, moved, inPlace, wayBack, andThen}
 use Rattle.overlap.specs.Judge.{clashes, Allowed, answerOf}
 use Rattle.bits.proofs.EachLaws.{getD-map, map-along}
-use Rattle.rules.proofs.MatchLaws.{hit, First, match-told}
+use Rattle.rules.proofs.MatchLaws.{matchesAt, First, match-told}
 use Rattle.overlap.proofs.SortedLaws.{pair}
 use Rattle.overlap.proofs.OrderLaws.{Order, order, new-apart}
 use Rattle.overlap.proofs.MadeOrders.{place-size, place-old, place-order, place-new, way-order, way-new, then-back, then-order, then-new}
@@ -42,10 +42,10 @@ moved-new rules o O i h = moved-at rules o (newPlace o i) (rw (O .size) (O .new-
 
 module _ (rules : List Rule) (o : List ℕ) (O : Order (length rules) o) (h : List ℕ) where
   -- a rule that matches at its old place does at its new one, and the other way round
-  hit-new : (i : ℕ) → i < length rules → hit (moved rules o) h (newPlace o i) ≡ hit rules h i
+  hit-new : (i : ℕ) → i < length rules → matchesAt (moved rules o) h (newPlace o i) ≡ matchesAt rules h i
   hit-new i l = ap (matches h) (moved-new rules o O i l)
 
-  hit-old : (k : ℕ) → k < length rules → hit (moved rules o) h k ≡ hit rules h (oldPlace o k)
+  hit-old : (k : ℕ) → k < length rules → matchesAt (moved rules o) h k ≡ matchesAt rules h (oldPlace o k)
   hit-old k l = ap (matches h) (moved-at rules o k (rw (O .size) l))
 
   below : (k : ℕ) → k < length (moved rules o) → k < length rules
@@ -77,7 +77,7 @@ module _ (rules : List Rule) (o : List ℕ) (O : Order (length rules) o) (h : Li
     unfolding answerOf
     kept-answer = go (firstMatch rules h) (match-told rules h) (firstMatch (moved rules o) h) (match-told (moved rules o) h)
       where
-        go : (a : Option ℕ) → Told (hit rules h) (length rules) a → (b : Option ℕ) → Told (hit (moved rules o) h) (length (moved rules o)) b
+        go : (a : Option ℕ) → Told (matchesAt rules h) (length rules) a → (b : Option ℕ) → Told (matchesAt (moved rules o) h) (length (moved rules o)) b
             → Option·map (λ k. ruleAt (moved rules o) k .action) b ≡ Option·map (λ i. ruleAt rules i .action) a
         go none N none M = refl
         go none N (some k) M =

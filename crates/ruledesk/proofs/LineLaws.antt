@@ -18,10 +18,10 @@ use Rattle.ruledesk.specs.Text.{codes, decimal}
 use Rattle.ruledesk.specs.Lines.{placeText, refusedText, actionText, outcomeText, answerText}
 use Rattle.ruledesk.specs.InCode.{placeTold, actionTold}
 
-pub match-told : (place : ℕ) (a : Action) → outcomeText (outcomeSaid (Match place a)) ≡ codes "match " ++ (decimal place ++ actionTold a)
+pub match-text : (place : ℕ) (a : Action) → outcomeText (outcomeSaid (Match place a)) ≡ codes "match " ++ (decimal place ++ actionTold a)
 unfolding outcomeText outcomeSaid actionValues actionText actionTold
-match-told place Hold = refl
-match-told place (Deliver feed) = refl
+match-text place Hold = refl
+match-text place (Deliver feed) = refl
 
 pub refused-told : (r : Refusal) → refusedText (said r) ≡ codes "refused " ++ (decimal (numberOf r) ++ placeTold (placeOf r))
 unfolding refusedText placeText said numberOf placeOf placeTold
@@ -44,5 +44,5 @@ unfolding answerText
 answer-other n values = rw (ne-eqb (suc n) 0 (λ e. omega (arith, e))) refl
 
 -- the line of a lookup that is refused is the refusal's
-pub answer-refused : (r : Refusal) → answerText (said r) ≡ refusedText (said r)
-answer-refused r = rw (numbered r .2) (answer-other (numbered r .0) (numbered r .1))
+pub refused-text : (r : Refusal) → answerText (said r) ≡ refusedText (said r)
+refused-text r = rw (numbered r .2) (answer-other (numbered r .0) (numbered r .1))

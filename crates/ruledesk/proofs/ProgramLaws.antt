@@ -26,7 +26,7 @@ use Rattle.rules.specs.Table.{recordSize, mostRules, verdict}
 use Rattle.rules.proofs.SaidLaws.{numbered}
 use Rattle.lookup.specs.Answer.{answerSaid}
 use Rattle.lookup.specs.Look.{lookSaid}
-use Rattle.lookup.proofs.Demand2.{demand-2}
+use Rattle.lookup.proofs.Demand2.{look-answer}
 use Rattle.desk.specs.declared.Built.{Built}
 use Rattle.desk.specs.declared.Built.the-variants.{Done, Refused}
 use Rattle.desk.specs.Lent.{roomSaid}
@@ -165,7 +165,7 @@ module _ (table input area : List ℕ) (size : length area ≡ areaWords) where
     text-done {words} e bytes each =
         let held = built-image (subst (λ (r : Built). Builds table area r after) e built) in
         input-agree (lookSaid table after) (answerSaid table) input each
-        (λ header b right. demand-2 table bytes (held .0) header b right after (held .1))
+        (λ header b right. look-answer table bytes (held .0) header b right after (held .1))
         ∙ text-from (0 ∷ words ∷ []) (ap builtSaid (sym e) ∙ built .answer)
 
 pub left-refused : (table area : List ℕ) (r : Refusal) → said r ≡ buildSaid table area → area ≡ areaLeft table area

@@ -13,7 +13,7 @@ use Rattle.bits.proofs.TestLaws.{and-trues, all-up, any-from, all-from, none-at
 use Rattle.rules.specs.Field.{Field, fields, fieldAt}
 
 -- the value stands in whole bytes within the first 13, and the length at byte 13 + f
-pub record Sound (f : ℕ) : Type 0 where
+pub record SoundField (f : ℕ) : Type 0 where
   pub inside : fieldAt f .start + fieldAt f .width / 8 ≤ 13
   pub whole : 8 * (fieldAt f .width / 8) ≡ fieldAt f .width
   pub narrow : fieldAt f .width ≤ 32
@@ -28,7 +28,7 @@ every-sound : all sound (upFrom 0 5) ≡ true
 unfolding all upFrom sound
 every-sound = refl
 
-pub field-sound : (f : ℕ) → f < 5 → Sound f
+pub field-sound : (f : ℕ) → f < 5 → SoundField f
 unfolding sound
 field-sound f h =
     let a = and-trues _ _ (all-up sound 0 5 every-sound f (omega arith) (omega arith)) in
@@ -42,8 +42,8 @@ field-sound f h =
     }
 
 -- a table with a number for each field holds that field's at its place
-pub listed : (g : Field → ℕ) (f : ℕ) → getD (map g fields) f (g (fieldAt 5)) ≡ g (fieldAt f)
-listed g f = List·getD-map g fields f (fieldAt 5)
+pub field-listed : (g : Field → ℕ) (f : ℕ) → getD (map g fields) f (g (fieldAt 5)) ≡ g (fieldAt f)
+field-listed g f = List·getD-map g fields f (fieldAt 5)
 
 -- ---- a test of the fields that are left, from field f on
 

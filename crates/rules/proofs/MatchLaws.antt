@@ -39,21 +39,21 @@ matches-in values r h = each-places has (r .spans) values nowhere 0 h
 
 module _ (rules : List Rule) (h : List ℕ) where
   -- the rule at a place matches the header
-  abbrev pub hit : ℕ → Bool
-  hit place = matches h (ruleAt rules place)
+  abbrev pub matchesAt : ℕ → Bool
+  matchesAt place = matches h (ruleAt rules place)
 
   -- it is the first that does
   abbrev pub First : ℕ → Type 0
-  First place = Lowest hit (length rules) place
+  First place = Lowest matchesAt (length rules) place
 
-  pub match-told : Told hit (length rules) (firstMatch rules h)
+  pub match-told : Told matchesAt (length rules) (firstMatch rules h)
   unfolding firstMatch
-  match-told = lowest-told hit (length rules)
+  match-told = lowest-told matchesAt (length rules)
 
   pub first-match : (place : ℕ) → First place → firstMatch rules h ≡ some place
   unfolding firstMatch
-  first-match place f = lowest-some hit (length rules) place f
+  first-match place f = lowest-some matchesAt (length rules) place f
 
-  pub no-match : Never hit (length rules) → firstMatch rules h ≡ none
+  pub no-match : Never matchesAt (length rules) → firstMatch rules h ≡ none
   unfolding firstMatch
-  no-match never = lowest-none hit (length rules) never
+  no-match never = lowest-none matchesAt (length rules) never

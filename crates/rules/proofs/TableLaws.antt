@@ -142,7 +142,7 @@ rules-more table n = rw (add-one n) (go (lowest (faulty table) n) (lowest-told (
 -- ---- accepted tables
 
 -- whole records, not too many, and none at fault
-pub record Sound (table : List ℕ) : Type 0 where
+pub record SoundTable (table : List ℕ) : Type 0 where
   pub whole : length table % recordSize ≡ 0
   pub few : ruleCount table ≤ mostRules
   pub faultless : (place : ℕ) → place < ruleCount table → fault (recordAt table place) ≡ 0
@@ -158,12 +158,12 @@ rules-sound table n e = go (lowest (faulty table) n) (lowest-told (faulty table)
         let said : fault (recordAt table p) ∷ p ∷ [] ≡ 0 ∷ [] = rw bad at q in
         absurd (eqb-false (fault (recordAt table p)) 0 bad (head-eq-of-cons-eq said))
 
-pub accepted-sound : (table : List ℕ) → Accepted table → Sound table
+pub accepted-sound : (table : List ℕ) → Accepted table → SoundTable table
 unfolding verdict
 accepted-sound table e = go (eqb (length table % recordSize) 0) refl (ltb mostRules (ruleCount table)) refl e
   where
     go : (w : Bool) → eqb (length table % recordSize) 0 ≡ w → (m : Bool) → ltb mostRules (ruleCount table) ≡ m
-        → cond (not w) (1 ∷ []) (cond m (2 ∷ []) (rulesSaid table (ruleCount table))) ≡ 0 ∷ [] → Sound table
+        → cond (not w) (1 ∷ []) (cond m (2 ∷ []) (rulesSaid table (ruleCount table))) ≡ 0 ∷ [] → SoundTable table
     go false p m q r = absurd (omega (arith, head-eq-of-cons-eq r))
     go true p true q r = absurd (omega (arith, head-eq-of-cons-eq r))
     go true p false q r = record {
@@ -172,7 +172,7 @@ accepted-sound table e = go (eqb (length table % recordSize) 0) refl (ltb mostRu
       faultless = rules-sound table (ruleCount table) r;
     }
 
-pub sound-accepted : (table : List ℕ) → Sound table → Accepted table
+pub sound-accepted : (table : List ℕ) → SoundTable table → Accepted table
 unfolding verdict rulesSaid placeSaid
 sound-accepted table s =
     let clean : Never (faulty table) (ruleCount table) = λ p h. unfold faulty in ap not (eq-eqb (fault (recordAt table p)) 0 (s .faultless p h)) in

@@ -9,7 +9,7 @@ use Rattle.rules.specs.Refusal.{checkedSaid}
 use Rattle.rules.specs.Table.{ruleCount, Accepted}
 use Rattle.rules.proofs.TableLaws.{accepted-sound}
 use Rattle.index.specs.Steps.{AllSound}
-use Rattle.desk.proofs.BuildLaws.{all-sound, build-refused, build-short, build-done}
+use Rattle.desk.proofs.BuildLaws.{all-sound, refused-builds, short-builds, done-builds}
 use Rattle.desk.proofs.build.Statement.{statement}
 use Rattle.desk.proofs.build.Tie as tie
 
@@ -18,7 +18,7 @@ unfolding checkedSaid
 returns c =
     let k = c .before .before .before in
     let a = k .before .before .before .args in
-    build-refused (now (a .table)) (now (a .area)) (c .before .refusal .given .0 .0) (sym (ap checkedSaid (c .before .refusal .given .1)) ∙ k .check-table .ensures)
+    refused-builds (now (a .table)) (now (a .area)) (c .before .refusal .given .0 .0) (sym (ap checkedSaid (c .before .refusal .given .1)) ∙ k .check-table .ensures)
 
 -- past the table's verdict
 accepted : (c : tie.After-enum-told) → Accepted (now (c .before .before .before .before .before .args .table))
@@ -37,7 +37,7 @@ words-needed-requires c κs = sound c
 returns-2 : tie.Need-returns-2
 returns-2 c =
     let a = c .before .before .before .before .before .before .before .args in
-    build-short (now (a .table)) (now (a .area)) (accepted (c .before .before)) (omega (arith, c .before .words-needed .ensures .0))
+    short-builds (now (a .table)) (now (a .area)) (accepted (c .before .before)) (omega (arith, c .before .words-needed .ensures .0))
 
 write-requires : tie.Need-write-requires
 write-requires c κs =
@@ -48,7 +48,7 @@ returns-3 : tie.Need-returns-3
 returns-3 c =
     let k = c .before .before .before .before .before in
     let a = k .before .before .before .before .before .before .args in
-    let done = build-done (now (a .table)) (now (a .area)) (accepted (k .before)) (omega (arith, k .words-needed .ensures .0)) in
+    let done = done-builds (now (a .table)) (now (a .area)) (accepted (k .before)) (omega (arith, k .words-needed .ensures .0)) in
     rw (k .words-needed .ensures .0, c .before .before .write .ensures) done
 
 pub build-spec : {M : Type 1} → statement M

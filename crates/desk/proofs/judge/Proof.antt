@@ -11,7 +11,7 @@ use Rattle.rules.specs.Table.{ruleCount, Accepted}
 use Rattle.rules.proofs.TableLaws.{accepted-sound}
 use Rattle.overlap.specs.Order.{isOrder}
 use Rattle.overlap.specs.Obstacle.{obstacleTold}
-use Rattle.desk.proofs.JudgeLaws.{told, judge-refused, judge-no-order, judge-short, judge-crossed, judge-allowed}
+use Rattle.desk.proofs.JudgeLaws.{told, refused-judges, no-order-judges, short-judges, crossed-judges, allowed-judges}
 use Rattle.desk.proofs.judge.Statement.{statement}
 use Rattle.desk.proofs.judge.Tie as tie
 
@@ -20,7 +20,7 @@ unfolding checkedSaid
 returns c =
     let k = c .before .before .before in
     let a = k .before .before .before .before .args in
-    judge-refused (now (a .table)) (now (a .order)) (now (a .output)) (c .before .refusal .given .0 .0)
+    refused-judges (now (a .table)) (now (a .order)) (now (a .output)) (c .before .refusal .given .0 .0)
     (sym (ap checkedSaid (c .before .refusal .given .1)) ∙ k .check-table .ensures)
 
 -- past the table's verdict
@@ -35,7 +35,7 @@ returns-2 : tie.Need-returns-2
 returns-2 c =
     let k = c .before .before in
     let a = k .before .before .before .before .before .before .before .args in
-    judge-no-order (now (a .table)) (now (a .order)) (now (a .output)) (accepted (k .before)) (sym (k .check-order .ensures .exact) ∙ not-true _ (c .if1 .taken))
+    no-order-judges (now (a .table)) (now (a .order)) (now (a .output)) (accepted (k .before)) (sym (k .check-order .ensures .exact) ∙ not-true _ (c .if1 .taken))
 
 -- past the order's check
 ordered : (c : tie.Else1) → let a = c .before .before .before .before .before .before .before .before .before .args in isOrder (ruleCount (now (a .table))) (now (a .order)) ≡ true
@@ -46,7 +46,7 @@ returns-3 c =
     let k = c .before in
     let l = k .before .before .before in
     let a = l .before .before .before .before .before .before .args in
-    judge-short (now (a .table)) (now (a .order)) (now (a .output)) (accepted l) (ordered k) (c .if2 .taken)
+    short-judges (now (a .table)) (now (a .order)) (now (a .output)) (accepted l) (ordered k) (c .if2 .taken)
 
 -- what the search found is what is told of the order
 found : (c : tie.After-first-crossing) →
@@ -63,7 +63,7 @@ returns-4 c =
     let k = f .before .before in
     let l = k .before .before .before in
     let a = l .before .before .before .before .before .before .args in
-    judge-crossed (now (a .table)) (now (a .order)) (now (a .output)) (accepted l) (ordered k) (f .before .if2 .left) (c .before .crossing .given .0 .0)
+    crossed-judges (now (a .table)) (now (a .order)) (now (a .output)) (accepted l) (ordered k) (f .before .if2 .left) (c .before .crossing .given .0 .0)
     (sym (ap obstacleTold (c .before .crossing .given .1)) ∙ found f)
 
 write-moved-requires : tie.Need-write-moved-requires
@@ -81,7 +81,7 @@ returns-5 c =
     let l = k .before .before .before in
     let a = l .before .before .before .before .before .before .args in
     rw (c .before .before .write-moved .ensures)
-    (judge-allowed (now (a .table)) (now (a .order)) (now (a .output)) (accepted l) (ordered k) (f .before .if2 .left)
+    (allowed-judges (now (a .table)) (now (a .order)) (now (a .output)) (accepted l) (ordered k) (f .before .if2 .left)
     (sym (ap obstacleTold (t .enum-told2 .given .1)) ∙ found f))
 
 pub judge-spec : {M : Type 1} → statement M

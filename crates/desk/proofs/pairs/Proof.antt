@@ -7,7 +7,7 @@ use denote.Ref.{now}
 use Rattle.rules.specs.Refusal.{checkedSaid}
 use Rattle.rules.specs.Table.{Accepted}
 use Rattle.overlap.proofs.LoopLaws.{pairs-few}
-use Rattle.desk.proofs.PairsLaws.{pairs-refused, pairs-short, pairs-listed}
+use Rattle.desk.proofs.PairsLaws.{refused-pairs, short-pairs, listed-pairs}
 use Rattle.desk.proofs.pairs.Statement.{statement}
 use Rattle.desk.proofs.pairs.Tie as tie
 
@@ -16,7 +16,7 @@ unfolding checkedSaid
 returns c =
     let k = c .before .before .before in
     let a = k .before .before .before .args in
-    pairs-refused (now (a .table)) (now (a .list)) (c .before .refusal .given .0 .0) (sym (ap checkedSaid (c .before .refusal .given .1)) ∙ k .check-table .ensures)
+    refused-pairs (now (a .table)) (now (a .list)) (c .before .refusal .given .0 .0) (sym (ap checkedSaid (c .before .refusal .given .1)) ∙ k .check-table .ensures)
 
 -- past the table's verdict
 accepted : (c : tie.After-enum-told) → Accepted (now (c .before .before .before .before .before .args .table))
@@ -31,7 +31,7 @@ mul-if1 c =
 returns-2 : tie.Need-returns-2
 returns-2 c =
     let a = c .before .before .before .before .before .before .before .args in
-    pairs-short (now (a .table)) (now (a .list)) (accepted (c .before .before)) (omega (arith, c .before .count-pairs .ensures))
+    short-pairs (now (a .table)) (now (a .list)) (accepted (c .before .before)) (omega (arith, c .before .count-pairs .ensures))
 
 write-pairs-requires : tie.Need-write-pairs-requires
 write-pairs-requires c κs = (accepted (c .before .before .before), omega (arith, c .before .before .count-pairs .ensures))
@@ -42,7 +42,7 @@ returns-3 c =
     let a = k .before .before .before .before .before .before .args in
     let table = now (a .table) in
     let list = now (a .list) in
-    let done = pairs-listed table list (accepted (k .before)) (omega (arith, k .count-pairs .ensures)) in
+    let done = listed-pairs table list (accepted (k .before)) (omega (arith, k .count-pairs .ensures)) in
     rw (k .count-pairs .ensures, c .before .before .write-pairs .ensures) done
 
 pub pairs-spec : {M : Type 1} → statement M

@@ -6,12 +6,12 @@ use native.Mathlib.Omega.{arith}
 use lib.ListN.{length}
 use Rattle.area.specs.Upto.{upto}
 use Rattle.area.specs.Hand.{handed}
-use Rattle.area.proofs.HandLaws.{Sound, child-ready, child-sound, hand-more}
+use Rattle.area.proofs.HandLaws.{Bounded, child-ready, child-sound, hand-more}
 use Rattle.area.proofs.hand.hand_on.Statement.{statement}
 use Rattle.area.proofs.hand.hand_on.Tie as tie
 
 abbrev Inv-loop : tie.InvT-loop
-Inv-loop area₀ count k₀ area k = (k ≤ count) × Sound count (length area₀) area × (area ≡ handed k area₀)
+Inv-loop area₀ count k₀ area k = (k ≤ count) × Bounded count (length area₀) area × (area ≡ handed k area₀)
 
 abbrev μ-loop : tie.MeasureT-loop
 μ-loop area₀ count k₀ area k = count - k

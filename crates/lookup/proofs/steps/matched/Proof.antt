@@ -12,7 +12,7 @@ use Rattle.rules.specs.Refusal.{said}
 use Rattle.rules.specs.Table.{recordSize, recordAt}
 use Rattle.rules.proofs.TableLaws.{length-record}
 use Rattle.lookup.specs.InCode.{outcomeSaid, lookedSaid}
-use Rattle.lookup.proofs.LookLaws.{said-far, said-unknown, said-known}
+use Rattle.lookup.proofs.LookLaws.{said-far, said-no-action, said-known}
 use Rattle.lookup.proofs.steps.matched.Statement.{statement}
 use Rattle.lookup.proofs.steps.matched.Tie as tie
 
@@ -42,7 +42,7 @@ returns-2 c =
     let d = c .before .before in
     let k = d .before .before .before .before in
     let a = k .before .before .args in
-    sym (said-unknown (now (a .table)) (a .falses) (a .place) (lt-ltb (a .place) (length (now (a .table)) / 24) (k .if1 .left))
+    sym (said-no-action (now (a .table)) (a .falses) (a .place) (lt-ltb (a .place) (length (now (a .table)) / 24) (k .if1 .left))
     (sym (acted d) ∙ c .enum-told .given .1))
 
 returns-3 : tie.Need-returns-3

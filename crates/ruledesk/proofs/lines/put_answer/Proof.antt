@@ -2,7 +2,7 @@
 -- Assumes nothing.
 use Rattle.lookup.specs.InCode.{lookedSaid}
 use Rattle.ruledesk.specs.Lines.{answerText}
-use Rattle.ruledesk.proofs.LineLaws.{answer-refused}
+use Rattle.ruledesk.proofs.LineLaws.{refused-text}
 use Rattle.ruledesk.proofs.TextLaws.{puts-within}
 use native.Mathlib.Omega.{arith}
 use borrow.Author.Needs.{needs}
@@ -15,7 +15,7 @@ returns c = rw (c .before .before .before .before .before .looked .given .1) (c 
 
 returns-2 : tie.Need-returns-2
 unfolding lookedSaid
-returns-2 c = rw (c .before .before .before .before .before .looked2 .given .1, answer-refused _) (puts-within 52 55 (omega arith) (c .before .before .put-refusal .ensures))
+returns-2 c = rw (c .before .before .before .before .before .looked2 .given .1, refused-text _) (puts-within 52 55 (omega arith) (c .before .before .put-refusal .ensures))
 
 pub put-answer-spec : {M : Type 1} → statement M
 put-answer-spec =

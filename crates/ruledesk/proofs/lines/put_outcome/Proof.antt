@@ -2,7 +2,7 @@
 -- Assumes nothing.
 use Rattle.lookup.specs.InCode.{outcomeSaid}
 use Rattle.ruledesk.specs.Lines.{outcomeText}
-use Rattle.ruledesk.proofs.LineLaws.{match-told}
+use Rattle.ruledesk.proofs.LineLaws.{match-text}
 use Rattle.ruledesk.proofs.TextLaws.{puts-text, puts-both, puts-within}
 use native.Mathlib.Omega.{arith}
 use borrow.Author.Needs.{needs}
@@ -15,7 +15,7 @@ returns c = rw (c .before .before .before .before .before .enum-told .given .1) 
 
 returns-2 : tie.Need-returns-2
 returns-2 c =
-    rw (c .before .before .before .before .before .before .before .before .before .before .before .before .before .before .outcome .given .1, match-told _ _)
+    rw (c .before .before .before .before .before .before .before .before .before .before .before .before .before .before .outcome .given .1, match-text _ _)
     (puts-both 6 49 (puts-text (c .before .before .before .before .before .before .before .before .before .before .put-text2 .ensures)) (puts-both 20 29 (c .before .before .before .before .before .before .put-decimal .ensures) (c .before .before .put-action .ensures)))
 
 pub put-outcome-spec : {M : Type 1} → statement M

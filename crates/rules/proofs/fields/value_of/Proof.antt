@@ -7,23 +7,23 @@ use denote.Ref.{now}
 use native.Mathlib.Omega.{arith}
 use Rattle.bits.specs.Number.{numberAt}
 use Rattle.rules.specs.Field.{valueIn}
-use Rattle.rules.proofs.FieldLaws.{field-sound, listed}
+use Rattle.rules.proofs.FieldLaws.{field-sound, field-listed}
 use Rattle.rules.proofs.fields.value_of.Statement.{statement}
 use Rattle.rules.proofs.fields.value_of.Tie as tie
 
 number-at-requires : tie.Need-number-at-requires
 number-at-requires c κs =
     let f = c .before .args .f in
-    omega (arith, listed (λ g. g .start) f, listed (λ g. g .width) f, field-sound f (search needs))
+    omega (arith, field-listed (λ g. g .start) f, field-listed (λ g. g .width) f, field-sound f (search needs))
 
 returns : tie.Need-returns
 unfolding valueIn
 returns c =
     let a = c .before .before .args in
     let f = a .f in
-    let width = listed (λ g. g .width) f in
+    let width = field-listed (λ g. g .width) f in
     let digits = ap (λ (w : ℕ). 8 * (w / 8)) width ∙ field-sound f (search needs) .whole in (
-      c .number-at .ensures .0 ∙ ap₂ (λ (s w : ℕ). numberAt (now (a .bytes)) s (w / 8)) (listed (λ g. g .start) f) width,
+      c .number-at .ensures .0 ∙ ap₂ (λ (s w : ℕ). numberAt (now (a .bytes)) s (w / 8)) (field-listed (λ g. g .start) f) width,
       subst (λ (n : ℕ). c .number-at .result < 2 ^ n) digits (c .number-at .ensures .1),
     )
 

@@ -2,14 +2,14 @@
 -- Assumes nothing.
 use borrow.Author.Needs.{needs}
 use native.Mathlib.Omega.{arith}
-use Rattle.rules.proofs.FieldLaws.{field-sound, listed}
+use Rattle.rules.proofs.FieldLaws.{field-sound, field-listed}
 use Rattle.rules.proofs.fields.width_of.Statement.{statement}
 use Rattle.rules.proofs.fields.width_of.Tie as tie
 
 returns : tie.Need-returns
 returns c =
     let f = c .args .f in
-    let e = listed (λ g. g .width) f in
+    let e = field-listed (λ g. g .width) f in
     (e, omega (arith, e, field-sound f (search needs) .narrow))
 
 pub width-of-spec : {M : Type 1} → statement M
