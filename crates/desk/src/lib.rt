@@ -1,5 +1,5 @@
 // The rule desk: its public calls, each with its statement, none with a `requires`.
-// specs/ says what each answers, for any bytes at all.
+// specs/ says what each answers, for any bytes at all; specs/Promises.antt is the page of what that promises.
 use overlap::Obstacle;
 use rules::Checked;
 use rules::Refusal;
