@@ -35,9 +35,9 @@ use Rattle.desk.specs.Show.{Shows}
 use Rattle.desk.specs.Terms.{IsHeader, IsTable, NoneFits, Wins, ListsPairs, IsOrder, NoneTurned, NoAction, UnknownAt, IsIndex, Matched, Gets, Unmatched, IsCrossing}
 
 pub record Demand1 : Type 0 where
-  -- "Whatever bytes come in, the desk ends, stays inside the memory that it was lent and answers by name." No call has a `requires`, and
-  -- the language accepts no function that may not end, or that may read or write outside what it is lent. What each statement gives is
-  -- one answer and one memory:
+  -- ---- "Whatever bytes come in, the desk ends, stays inside the memory that it was lent and answers by name."
+  -- No call has a `requires`, and the language accepts no function that may not end, or that may read or write outside what it is lent.
+  -- What each statement gives is one answer and one memory:
   pub build-one : {table area : List ℕ} {a b : built.Built} {after other : List ℕ}
       → Builds table area a after → Builds table area b other → (a ≡ b) × (after ≡ other)
   pub lookup-one : {table area header : List ℕ} {a b : Looked} → Looks table area header a → Looks table area header b → a ≡ b
@@ -46,14 +46,15 @@ pub record Demand1 : Type 0 where
   pub judge-one : {table order output : List ℕ} {a b : judged.Judged} {after other : List ℕ}
       → Judges table order output a after → Judges table order output b other → (a ≡ b) × (after ≡ other)
   pub show-one : {table : List ℕ} {place : ℕ} {part other : List ℕ} → Shows table place part → Shows table place other → part ≡ other
-  -- "An unknown action code is a refusal with the rule's place": refusal 5, exactly where that is the table's first fault
+  -- ---- "An unknown action code is a refusal with the rule's place."
+  -- Refusal 5, exactly where that is the table's first fault:
   pub build-unknown : {table area after : List ℕ} {r : built.Built} → Builds table area r after
       → (place : ℕ) → (r ≡ built.the-variants.Refused (UnknownAction place)) ↔ UnknownAt table place
   pub pairs-unknown : {table list after : List ℕ} {r : paired.Paired} → Pairs table list r after
       → (place : ℕ) → (r ≡ paired.the-variants.Refused (UnknownAction place)) ↔ UnknownAt table place
   pub judge-unknown : {table order output after : List ℕ} {r : judged.Judged} → Judges table order output r after
       → (place : ℕ) → (r ≡ judged.the-variants.Refused (UnknownAction place)) ↔ UnknownAt table place
-  -- wherever it stands, nothing is done with the table, and no lookup answers that rule, over any area
+  -- Wherever it stands, nothing is done with the table, and no lookup answers that rule, over any area:
   pub unknown-not-built : {table area after : List ℕ} {words place : ℕ} → place < ruleCount table → NoAction (recordAt table place)
       → Builds table area (Done words) after → ⊥
   pub unknown-not-listed : {table list after : List ℕ} {count place : ℕ} → place < ruleCount table → NoAction (recordAt table place)
@@ -62,14 +63,14 @@ pub record Demand1 : Type 0 where
       → Judges table order output Allowed after → ⊥
   pub unknown-not-answered : {table area header : List ℕ} {r : Looked} {place : ℕ} {action : Action} → NoAction (recordAt table place)
       → Looks table area header r → Matched r place action → ⊥
-  -- "No match is an answer of its own, never a delivery": an action that is answered is that of the rule at its place, over any area; and
-  -- over an index none is answered where no rule matches
+  -- ---- "No match is an answer of its own, never a delivery."
+  -- An action that is answered is that of the rule at its place, over any area; and over an index none is answered where no rule matches:
   pub answered-action : {table area header : List ℕ} {r : Looked} {place : ℕ} {action : Action} → Looks table area header r → Matched r place action
       → (place < ruleCount table) × (actionIn (recordAt table place) ≡ Known action)
   pub unmatched-no-action : {table area header : List ℕ} {r : Looked} {action : Action} → IsTable table → IsIndex table area → IsHeader header
       → Looks table area header r → NoneFits header table → Gets r action → ⊥
-  -- "Every refusal has one exact reason": the table's, which is the same for all calls, and for an accepted table the room's or the order's
-  -- (13 is demand 3's)
+  -- ---- "Every refusal has one exact reason"
+  -- The table's, which is the same for all calls; for an accepted table the room's or the order's; 13 is demand 3's:
   pub build-judges : {table area after : List ℕ} {r : built.Built} {why : Refusal} → Builds table area r after
       → said why ≡ verdict table → r ≡ built.the-variants.Refused why
   pub pairs-judges : {table list after : List ℕ} {r : paired.Paired} {why : Refusal} → Pairs table list r after
@@ -84,46 +85,50 @@ pub record Demand1 : Type 0 where
       → (r ≡ judged.the-variants.Refused NotAnOrder) ↔ (IsOrder table order → ⊥)
   pub judge-short : {table order output after : List ℕ} {r : judged.Judged} → IsTable table → IsOrder table order → Judges table order output r after
       → (r ≡ judged.the-variants.Refused ShortOutput) ↔ (length output < length table)
-  -- "and leaves the lent memory untouched"
+  -- ---- "and leaves the lent memory untouched."
   pub build-untouched : {table area after : List ℕ} {why : Refusal} → Builds table area (built.the-variants.Refused why) after → after ≡ area
   pub pairs-untouched : {table list after : List ℕ} {why : Refusal} → Pairs table list (paired.the-variants.Refused why) after → after ≡ list
   pub judge-untouched : {table order output after : List ℕ} {why : Refusal} → Judges table order output (judged.the-variants.Refused why) after
       → after ≡ output
 
 pub record Demand2 : Type 0 where
-  -- an accepted table's index is built wherever it has room, and its pairs are listed
+  -- ---- "Accepted table, an index built from it and unchanged since"
+  -- There is one wherever there is room, and a list of pairs as well:
   pub build-done : {table area after : List ℕ} {r : built.Built} → IsTable table → Builds table area r after
       → (r ≡ Done (wordsNeeded table)) ↔ (wordsNeeded table ≤ length area)
   pub pairs-done : {table list after : List ℕ} {r : paired.Paired} → IsTable table → Pairs table list r after
       → (r ≡ Listed (pairCount table)) ↔ (2 * pairCount table ≤ length list)
-  -- "Accepted table, an index built from it and unchanged since, any 13-byte header: the lowest-numbered matching rule with its action"
+  -- ---- "any 13-byte header: the lowest-numbered matching rule with its action"
   pub lookup-match : {table area header : List ℕ} {r : Looked} → IsTable table → IsIndex table area → IsHeader header → Looks table area header r
       → (place : ℕ) (action : Action) → Matched r place action ↔ Wins table header place action
-  -- "or none exactly when no rule matches"
+  -- ---- "or none exactly when no rule matches."
   pub lookup-none : {table area header : List ℕ} {r : Looked} → IsTable table → IsIndex table area → IsHeader header → Looks table area header r
       → Unmatched r ↔ NoneFits header table
-  -- "Pairs listed exactly, once, in order": no two lists are so, and entries after the pairs stay
+  -- ---- "Pairs listed exactly, once, in order."
+  -- No two lists are so, and entries after the pairs stay:
   pub pairs-listed : {table list after : List ℕ} {count : ℕ} → IsTable table → Pairs table list (Listed count) after → ListsPairs table after count
   pub pairs-only : {table one other : List ℕ} {m n : ℕ} → ListsPairs table one m → ListsPairs table other n
       → (m ≡ n) × ((k : ℕ) → k < m → (getD one (2 * k) 0 ≡ getD other (2 * k) 0) × (getD one (2 * k + 1) 0 ≡ getD other (2 * k + 1) 0))
   pub pairs-beyond : {table list after : List ℕ} {count : ℕ} → Pairs table list (Listed count) after → drop (2 * count) after ≡ drop (2 * count) list
-  -- "False blocks are what table and header fix": there are at most 8, and no refusal comes
+  -- ---- "False blocks are what table and header fix."
+  -- There are at most 8; and no refusal comes, neither 9 nor 5:
   pub lookup-done : {table area header : List ℕ} {r : Looked} → IsTable table → IsIndex table area → IsHeader header → Looks table area header r
       → (a : Answer) × (r ≡ Found a) × (a .falses ≡ falseBlocks 32 blocks (rulesOf table) (headerValues header)) × (a .falses ≤ blocks)
 
 pub record Demand3 : Type 0 where
-  -- "Accepted table, any order of its places, an output with room: the move is allowed .. exactly when no two rules that share a header and
-  -- differ in action change order"; otherwise it is refused as 13
+  -- ---- "Accepted table, any order of its places, an output with room: the move is allowed, and the table written in that order, exactly when
+  -- no two rules that share a header and differ in action change order."
+  -- Otherwise it is refused as 13:
   pub judge-exact : {table order output after : List ℕ} {r : judged.Judged} → IsTable table → IsOrder table order
       → length table ≤ length output → Judges table order output r after → (r ≡ Allowed) ↔ NoneTurned table order
   pub judge-either : {table order output after : List ℕ} {r : judged.Judged} → IsTable table → IsOrder table order
       → length table ≤ length output → Judges table order output r after
       → (r ≡ Allowed) ⊎ ((c : Crossing) × (r ≡ judged.the-variants.Refused (NotAllowed c)))
-  -- "and the table written in that order": the output starts with it, bytes after it stay, and it is accepted
+  -- What is written starts with the moved table, bytes after it stay, and it is accepted:
   pub judge-writes : {table order output after : List ℕ} → Judges table order output Allowed after
       → (take (length table) after ≡ movedTable table order) × (drop (length table) after ≡ drop (length table) output)
   pub judge-accepted : {table order output after : List ℕ} → IsTable table → Judges table order output Allowed after → IsTable (take (length table) after)
-  -- "After an allowed move every header gets the same action, or none, as before."
+  -- ---- "After an allowed move every header gets the same action, or none, as before."
   pub moved-same-action : {table order output after old new header : List ℕ} {before now : Looked} → IsTable table
       → Judges table order output Allowed after → IsHeader header → IsIndex table old → Looks table old header before
       → IsIndex (take (length table) after) new → Looks (take (length table) after) new header now
@@ -131,18 +136,20 @@ pub record Demand3 : Type 0 where
   pub moved-same-none : {table order output after old new header : List ℕ} {before now : Looked} → IsTable table
       → Judges table order output Allowed after → IsHeader header → IsIndex table old → Looks table old header before
       → IsIndex (take (length table) after) new → Looks (take (length table) after) new header now → Unmatched before ↔ Unmatched now
-  -- "A refused move shows a header on which those two rules alone answer differently in the two orders": the 13 bytes that refusal 13 carries
+  -- ---- "A refused move shows a header on which those two rules alone answer differently in the two orders."
+  -- It is the 13 bytes that refusal 13 carries:
   pub judge-crossing : {table order output after : List ℕ} {c : Crossing} → IsTable table → IsOrder table order
       → length table ≤ length output → Judges table order output (judged.the-variants.Refused (NotAllowed c)) after
       → IsCrossing table order (c .lower) (c .higher) (headerBytes (values (c .header)))
-  -- "Leaving all in place is allowed"
+  -- ---- "Leaving all in place is allowed;"
   pub judge-in-place : {table output after : List ℕ} {r : judged.Judged} → IsTable table → length table ≤ length output
       → Judges table (inPlace (ruleCount table)) output r after → (r ≡ Allowed) × (take (length table) after ≡ table)
-  -- "an allowed move may be undone": what judge wrote, judged by the way back
+  -- ---- "an allowed move may be undone;"
+  -- What judge wrote, judged by the way back:
   pub judge-undone : {table order output after other left : List ℕ} {r : judged.Judged} → Judges table order output Allowed after
       → length table ≤ length other → Judges (take (length table) after) (wayBack (ruleCount table) order) other r left
       → (r ≡ Allowed) × (take (length table) left ≡ table)
-  -- "two allowed moves in a row are one allowed move"
+  -- ---- "two allowed moves in a row are one allowed move."
   pub judge-composed : {table one two output after output₂ after₂ output₃ after₃ : List ℕ} {r : judged.Judged} → Judges table one output Allowed after
       → Judges (take (length table) after) two output₂ Allowed after₂ → length table ≤ length output₃
       → Judges table (andThen one two) output₃ r after₃ → (r ≡ Allowed) × (take (length table) after₃ ≡ take (length table) after₂)
