@@ -2,7 +2,7 @@
 -- Assumes nothing.
 use mathlib.Core.Path.{_≡_, refl, sym, ap, ap₂, _∙_}
 use mathlib.Core.Logic.{⊎-elim}
-use mathlib.Core.Bool.{Bool, true, _&&_, false≢true}
+use mathlib.Core.Bool.{Bool, true, false, _&&_, false≢true}
 use mathlib.Core.List.{List, [], _∷_, _++_, map, zipWith}
 use Prim.Native.Nat.{ℕ, zero, suc, _+_, _<_}
 use native.Mathlib.Nat.{zero-lt-suc, le-of-suc-le-suc, zero-add}
@@ -10,7 +10,7 @@ use native.Mathlib.Omega.{arith}
 use lib.ListN.{length, getD, length-map}
 use lib.Seq.{ext-getD}
 use Rattle.bits.specs.Tests.{any, all, each, upFrom}
-use Rattle.bits.proofs.TestLaws.{and-trues, and-both, or-trues}
+use Rattle.bits.proofs.TestLaws.{clash, refuted, and-trues, and-both, or-trues}
 
 -- the other way round
 pub each-flip : {A B : Type 0} (p : A → B → Bool) (xs : List A) (ys : List B) → each p xs ys ≡ each (λ y x. p x y) ys xs
@@ -121,6 +121,10 @@ some-at test (x ∷ l) d e =
     (λ here. (0, omega arith, here))
     (λ later. let r = some-at test l d later in (suc (r .0), omega arith, r .2))
     (or-trues (test x) (any test l) e)
+
+-- where none passes at a place, none does
+pub none-any : {A : Type 0} (test : A → Bool) (l : List A) (d : A) → ((k : ℕ) → k < length l → test (getD l k d) ≡ false) → any test l ≡ false
+none-any test l d fails = refuted (any test l) (λ e. let r = some-at test l d e in clash (r .2) (fails (r .0) (r .1)))
 
 pub up-snoc : (k n : ℕ) → upFrom k (suc n) ≡ upFrom k n ++ ((k + n) ∷ [])
 unfolding upFrom

@@ -1,11 +1,11 @@
 -- The ways to satisfy the statement of `build`: a refused table, a short area, and the index written.
 -- Assumes nothing.
-use mathlib.Core.Path.{_≡_, refl, sym, ap, _∙_}
+use mathlib.Core.Path.{_≡_, refl, sym, ap, ap₂, _∙_}
 use mathlib.Core.List.{List, [], _∷_, _++_}
 use Prim.Native.Nat.{ℕ, _≤_, _<_}
 use native.Mathlib.Omega.{arith}
 use lib.ListN.{length, take, drop}
-use lib.Seq.{take-at}
+use lib.Seq.{take-at, drop-at}
 use Rattle.rules.specs.declared.Refusal.{Refusal}
 use Rattle.rules.specs.declared.Refusal.the-variants.{ShortArea}
 use Rattle.rules.specs.Refusal.{said}
@@ -14,7 +14,7 @@ use Rattle.rules.proofs.TableLaws.{length-record, accepted-sound}
 use Rattle.area.specs.Shape.{deskShape}
 use Rattle.index.specs.Image.{image}
 use Rattle.index.specs.Steps.{AllSound}
-use Rattle.index.proofs.ImageLaws.{one-level-sized, length-image}
+use Rattle.index.proofs.ImageLaws.{desk-sized, length-image}
 use Rattle.desk.specs.declared.Built.the-variants.{Done, Refused}
 use Rattle.desk.specs.Lent.{roomSaid}
 use Rattle.desk.specs.BuildCall.{builtSaid, wordsNeeded, buildSaid, areaLeft, Builds}
@@ -66,5 +66,15 @@ built-image {table = table} {area = area} {after = after} {words = words} b =
     let left : after ≡ written table area = b .lent ∙ done-written (buildSaid table area) (written table area) area (words ∷ []) says in (
       done-accepted table (roomSaid 7 (wordsNeeded table) area (wordsNeeded table)) (words ∷ []) says,
       ap (take (wordsNeeded table)) left
-          ∙ take-at (image deskShape (rulesOf table)) (drop (wordsNeeded table) area) (wordsNeeded table) (length-image deskShape (one-level-sized 5 32 8) (rulesOf table)),
+          ∙ take-at (image deskShape (rulesOf table)) (drop (wordsNeeded table) area) (wordsNeeded table) (length-image deskShape desk-sized (rulesOf table)),
     )
+
+-- and the words after them stay
+pub built-beyond : {table area after : List ℕ} {words : ℕ} → Builds table area (Done words) after → drop words after ≡ drop words area
+unfolding builtSaid buildSaid areaLeft
+built-beyond {table = table} {area = area} {after = after} {words = words} b =
+    let size = built-words b in
+    let left : after ≡ written table area = b .lent ∙ done-written (buildSaid table area) (written table area) area (words ∷ []) (sym (b .answer)) in
+    ap₂ (λ (n : ℕ) (l : List ℕ). drop n l) size left
+    ∙ drop-at (image deskShape (rulesOf table)) (drop (wordsNeeded table) area) (wordsNeeded table) (length-image deskShape desk-sized (rulesOf table))
+    ∙ ap (λ (n : ℕ). drop n area) (sym size)

@@ -90,7 +90,7 @@ two-differ : {a b header : List ℕ} → IsRule a → IsRule b → IsHeader head
 two-differ {a} {b} {header} ra rb h fa fb apart = record {
   there-table = two-table ra rb;
   back-table = two-table rb ra;
-  apart = λ x l y k.
+  answers-differ = λ x l y k.
       let first = first-gets ra rb h fa x l in
       let second = first-gets rb ra h fb y k in
       (first .0, second .0, first .2, second .2, λ e. apart (first .1 ∙ ap Known e ∙ sym (second .1)));
@@ -146,13 +146,14 @@ module _ {table o output after : List ℕ} {c : Crossing} (t : IsTable table) (x
     clashes : Clash (recordAt table (p .lower)) (recordAt table (p .higher))
     clashes = clash-at t below inside .1 (clash-exact (ruleAt rules (p .lower)) (ruleAt rules (p .higher)) .1 (crossed .shares, crossed .differs))
 
-    earlier : (i k : ℕ) → i < k → k < ruleCount table → (i < p .lower) ⊎ ((i ≡ p .lower) × (k < p .higher)) → Turned table o i k → ⊥
-    earlier i k h g before turned =
-        let low : i < ruleCount table = omega arith in
+    earlier : (i k : ℕ) → (i < p .lower) ⊎ ((i ≡ p .lower) × (k < p .higher)) → Turned table o i k → ⊥
+    earlier i k before turned =
+        let low : i < ruleCount table = omega (arith, turned .rises, turned .inside) in
         omega (
           arith,
           turned .changes,
-          crossed .first (pair i k) (record { rises = h; inside = rw (rules-size table) g }) before (clash-at t low g .0 (turned .clash)),
+          crossed .first (pair i k) (record { rises = turned .rises; inside = rw (rules-size table) (turned .inside) }) before
+              (clash-at t low (turned .inside) .0 (turned .clash)),
         )
 
     crossing-is : IsCrossing table o (p .lower) (p .higher) (shared first second (clashes .share))
@@ -160,15 +161,13 @@ module _ {table o output after : List ℕ} {c : Crossing} (t : IsTable table) (x
         let fits = shared-fits first second (clashes .share) in
         let is = shared-is first second (clashes .share) in
         record {
-          rises = crossed .within .rises;
-          inside = inside;
-          turned = record { changes = crossed .changes; clash = clashes };
-          first = earlier;
+          turned = record { rises = crossed .within .rises; inside = inside; changes = crossed .changes; clash = clashes };
+          first-pair = earlier;
           is = is;
           fits-lower = fits .0;
           fits-higher = fits .1;
           lowest = shared-lowest first second (clashes .share);
-          differ = two-differ first second is (fits .0) (fits .1) (clashes .differ);
+          differ = two-differ first second is (fits .0) (fits .1) (clashes .actions-differ);
         }
 
   named : (q : Option Pair) → judge.crossing rules o ≡ q → said (NotAllowed c) ≡ crossingSaid rules q

@@ -1,13 +1,13 @@
 -- Demand 1 through the calls: a refusal leaves what was lent as it was; an action that is not known is refusal 5 with its place, is never
 -- part of anything that is done, and is never answered.
 -- Assumes nothing.
-use mathlib.Core.Path.{_≡_, sym, ap, subst, _∙_}
+use mathlib.Core.Path.{_≡_, sym, ap, _∙_}
 use mathlib.Core.Logic.{_↔_}
 use mathlib.Core.Bool.{true≢false}
 use mathlib.Core.List.{List, [], _∷_}
 use Prim.Native.Nat.{ℕ, zero, suc, _<_}
 use native.Mathlib.Omega.{arith}
-use lib.ListN.{getD}
+use lib.ListN.{length, getD}
 use Rattle.rules.specs.declared.Action.{Action}
 use Rattle.rules.specs.declared.Refusal.{Refusal}
 use Rattle.rules.specs.declared.Refusal.the-variants.{UnknownAction}
@@ -16,10 +16,13 @@ use Rattle.rules.specs.Action.{actionIn, isUnknown}
 use Rattle.rules.specs.Refusal.{said, firstRefusal}
 use Rattle.rules.specs.Table.{ruleCount, recordAt, rulesOf, verdict, Accepted}
 use Rattle.rules.proofs.TableLaws.{accepted-sound, never-unknown}
-use Rattle.rules.proofs.FaultLaws.{verdict-fault, unknown-exact, fifth-unknown}
+use Rattle.rules.proofs.FaultLaws.{verdict-fault, unknown-exact}
 use Rattle.overlap.specs.Judge.{crossing}
 use Rattle.lookup.specs.declared.Looked.{Looked}
-use Rattle.lookup.proofs.AnsweredLaws.{look-carries}
+use Rattle.lookup.specs.declared.Looked as looked
+use Rattle.lookup.specs.InCode.{lookedSaid}
+use Rattle.lookup.proofs.LookedLaws.{looked-one}
+use Rattle.lookup.proofs.AnsweredLaws.{look-carries, look-unknown, unknown-there}
 use Rattle.desk.specs.declared.Built as built
 use Rattle.desk.specs.declared.Paired as paired
 use Rattle.desk.specs.declared.Judged as judged
@@ -29,6 +32,7 @@ use Rattle.desk.specs.LookCall.{Looks}
 use Rattle.desk.specs.PairsCall.{pairedSaid, pairCount, pairsSaid, pairsLeft, Pairs}
 use Rattle.desk.specs.JudgeCall.{judgedSaid, orderSaid, outputSaid, crossingSaid, judgeSaid, judgeLeft, Judges}
 use Rattle.desk.specs.Terms.{NoAction, UnknownAt, Matched}
+use Rattle.desk.proofs.InOrder.{fault-unknown, unknown-fault}
 use Rattle.desk.proofs.SaidNumbers.{NotSaid, first-never, room-never, order-never, output-never, crossing-never}
 use Rattle.desk.proofs.LentLaws.{lent-refused, done-accepted}
 use Rattle.desk.proofs.BuildLaws.{refused-builds}
@@ -61,21 +65,12 @@ module _ (table : List ℕ) (place : ℕ) where
   first-verdict (suc n ∷ vs) rest never e = e
 
   unknown-at : (rest : List ℕ) → NotSaid 5 rest → firstRefusal (verdict table) rest ≡ said (UnknownAction place) → UnknownAt table place
-  unfolding said actionIn
-  unknown-at rest never e =
-      let f = verdict-fault table 4 place .0 (first-verdict (verdict table) rest never e) in
-      record {
-        whole = f .whole;
-        few = f .few;
-        inside = f .inside;
-        lowest = f .earlier;
-        fifth = f .first;
-        unknown = unknown-exact _ _ .0 (fifth-unknown (recordAt table place) (f .first));
-      }
+  unfolding said
+  unknown-at rest never e = fault-unknown table place (verdict-fault table 4 place .0 (first-verdict (verdict table) rest never e))
 
   at-unknown : UnknownAt table place → said (UnknownAction place) ≡ verdict table
   unfolding said
-  at-unknown u = sym (verdict-fault table 4 place .1 (record { whole = u .whole; few = u .few; inside = u .inside; earlier = u .lowest; first = u .fifth }))
+  at-unknown u = sym (verdict-fault table 4 place .1 (unknown-fault table place u))
 
 pub build-unknown : {table area after : List ℕ} {r : built.Built} → Builds table area r after
     → (place : ℕ) → (r ≡ built.the-variants.Refused (UnknownAction place)) ↔ UnknownAt table place
@@ -136,7 +131,24 @@ unknown-not-moved {table} {place = place} inside no-action j =
 pub answered-action : {table area header : List ℕ} {r : Looked} {place : ℕ} {action : Action} → Looks table area header r → Matched r place action
     → (place < ruleCount table) × (actionIn (recordAt table place) ≡ Known action)
 answered-action {table} {area} {header} {r} {place} {action} l m =
-    look-carries table (m .0) place action area header (subst (λ (x : Looked). Looks table area header x) (m .1) l .answer)
+    look-carries table area header (m .0) place action (sym (l .answer) ∙ ap lookedSaid (m .1))
+
+-- lookup's own 5
+pub lookup-unknown : {table area header : List ℕ} {r : Looked} {place : ℕ} → Looks table area header r → r ≡ looked.the-variants.Refused (UnknownAction place)
+    → (place < ruleCount table) × NoAction (recordAt table place)
+unfolding lookedSaid said actionIn
+lookup-unknown {table} {area} {header} {r} {place} l e =
+    let u = look-unknown table area header place (sym (l .answer) ∙ ap lookedSaid e) in
+    (u .0, unknown-exact _ _ .0 (u .1))
+
+pub lookup-unknown-there : {table other area header : List ℕ} {r s : Looked} {place : ℕ} {action : Action} → length other ≡ length table
+    → Looks other area header s → Matched s place action → Looks table area header r → NoAction (recordAt table place)
+    → r ≡ looked.the-variants.Refused (UnknownAction place)
+unfolding lookedSaid said actionIn
+lookup-unknown-there {table} {other} {area} {header} {r} {s} {place} {action} size m found l no-action =
+    looked-one r (looked.the-variants.Refused (UnknownAction place))
+    (l .answer
+    ∙ unknown-there table other area header (found .0) place action size (sym (m .answer) ∙ ap lookedSaid (found .1)) (unknown-exact _ _ .1 no-action))
 
 pub unknown-not-answered : {table area header : List ℕ} {r : Looked} {place : ℕ} {action : Action} → NoAction (recordAt table place)
     → Looks table area header r → Matched r place action → ⊥

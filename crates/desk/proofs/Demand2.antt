@@ -43,6 +43,10 @@ index-image {table} {area} x =
     let words = built-words (x .built) in
     ap (λ (n : ℕ). take n area) (sym words) ∙ x .unchanged ∙ ap (λ (n : ℕ). take n (x .left)) words ∙ built-image (x .built) .1
 
+-- no match carries no action
+pub none-no-action : {r : Looked} {action : Action} → Unmatched r → Gets r action → ⊥
+none-no-action u g = match-some (sym (g .1 .1) ∙ u .1)
+
 -- ---- what lookup answers
 
 module _ {table area header : List ℕ} {r : Looked} (t : IsTable table) (x : IsIndex table area) (h : IsHeader header) (l : Looks table area header r) where
@@ -121,22 +125,22 @@ module _ {table area header : List ℕ} {r : Looked} (t : IsTable table) (x : Is
           let d = decides (some place) low (first-match rules values place low) in
           (falses, d .2 ∙ ap (λ (a : Action). answer (Match place a)) (known-one (sym (d .1) ∙ w .carries)))
 
-  pub lookup-none : Unmatched r ↔ NoneFits header table
+  pub lookup-none : Unmatched r ↔ NoneFits table header
   lookup-none = (go (firstMatch rules values) (match-told rules values) refl, back)
     where
-      go : (o : Option ℕ) → Told (matchesAt rules values) (length rules) o → firstMatch rules values ≡ o → Unmatched r → NoneFits header table
+      go : (o : Option ℕ) → Told (matchesAt rules values) (length rules) o → firstMatch rules values ≡ o → Unmatched r → NoneFits table header
       go none told e u = λ place below. not-fits place below (told place (omega (arith, rules-size table)))
       go (some p) told e u = absurd (match-some (sym (decides (some p) told e .2) ∙ u .1))
 
-      back : NoneFits header table → Unmatched r
+      back : NoneFits table header → Unmatched r
       back none-fits =
           let never : Never (matchesAt rules values) (length rules) =
           λ j q. refuted (matchesAt rules values j) (λ e. none-fits j (inside j q) (fits-at t (inside j q) h .1 e))
           in
           (falses, decides none never (no-match rules values never))
 
-  pub unmatched-no-action : {action : Action} → NoneFits header table → Gets r action → ⊥
-  unmatched-no-action none-fits g = match-some (sym (g .1 .1) ∙ lookup-none .1 none-fits .1)
+  pub unmatched-no-action : {action : Action} → NoneFits table header → Gets r action → ⊥
+  unmatched-no-action none-fits g = none-no-action (lookup-none .1 none-fits) g
 
   pub lookup-done : (a : Answer) × (r ≡ Found a) × (a .falses ≡ falses) × (a .falses ≤ blocks)
   lookup-done = go (firstMatch rules values) (match-told rules values) refl

@@ -134,15 +134,19 @@ module _ {table o output : List ℕ} (ok : Accepted table) (ordered : isOrder (r
 -- two rules that clash keep their order: by places of the table, and by rules
 kept-turned : {table : List ℕ} → IsTable table → (o : List ℕ) → Kept (rulesOf table) o ↔ NoneTurned table o
 kept-turned {table} t o = (
-  λ kept i j h g turned.
-      let low : i < ruleCount table = omega arith in
-      omega (arith, turned .changes, kept (pair i j) (record { rises = h; inside = rw (rules-size table) g }) (clash-at t low g .0 (turned .clash))),
+  λ kept i j turned.
+      let low : i < ruleCount table = omega (arith, turned .rises, turned .inside) in
+      omega (
+        arith,
+        turned .changes,
+        kept (pair i j) (record { rises = turned .rises; inside = rw (rules-size table) (turned .inside) }) (clash-at t low (turned .inside) .0 (turned .clash)),
+      ),
   λ none-turned p w c.
       let high : p .higher < ruleCount table = rw (← rules-size table) (w .inside) in
       let low : p .lower < ruleCount table = omega (arith, w .rises) in
       ⊎-elim
       (λ (changes : newPlace o (p .higher) < newPlace o (p .lower)).
-      absurd (none-turned (p .lower) (p .higher) (w .rises) high (record { changes = changes; clash = clash-at t low high .1 c })))
+      absurd (none-turned (p .lower) (p .higher) (record { rises = w .rises; inside = high; changes = changes; clash = clash-at t low high .1 c })))
       (λ stays. stays)
       (less (newPlace o (p .higher)) (newPlace o (p .lower))),
 )

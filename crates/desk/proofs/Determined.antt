@@ -1,9 +1,13 @@
 -- Each call's statement fixes its answer and every lent word: any two results that satisfy it are equal.
 -- Assumes nothing.
 use mathlib.Core.Path.{_≡_, refl, sym, _∙_}
-use mathlib.Core.List.{List}
-use Prim.Native.Nat.{ℕ}
+use mathlib.Core.Logic.{_⊎_, inl, inr, ⊎-elim}
+use mathlib.Core.List.{List, []}
+use Prim.Native.Nat.{ℕ, _≤_, _<_}
 use lib.ListN.{getD}
+use borrow.Author.Tests.{lt-ltb, le-ltb}
+use Rattle.bits.proofs.TestLaws.{less}
+use Rattle.rules.specs.Table.{ruleCount, recordAt}
 use Rattle.rules.proofs.SaidLaws.{answerFrom, answer-refused, one-answer}
 use Rattle.lookup.specs.declared.Looked.{Looked}
 use Rattle.lookup.proofs.LookedLaws.{looked-one}
@@ -14,7 +18,7 @@ use Rattle.desk.specs.BuildCall.{builtSaid, Builds}
 use Rattle.desk.specs.LookCall.{Looks}
 use Rattle.desk.specs.PairsCall.{pairedSaid, Pairs}
 use Rattle.desk.specs.JudgeCall.{judgedSaid, Judges}
-use Rattle.desk.specs.Show.{Shows}
+use Rattle.desk.specs.Show.{shownPart, Shows}
 
 -- an answer that can be read back, and what is left: both fixed by what is said and what must be left
 lent-one : {A : Type 0} (say : A → List ℕ) (from : List ℕ → A) → ((a : A) → from (say a) ≡ a) → {a b : A} {says after other left : List ℕ}
@@ -70,3 +74,11 @@ judge-one p q =
 
 pub show-one : {table : List ℕ} {place : ℕ} {part other : List ℕ} → Shows table place part → Shows table place other → part ≡ other
 show-one s t = s .answer ∙ sym (t .answer)
+
+-- the record at the place, or nothing
+pub shown-part : {table : List ℕ} {place : ℕ} {part : List ℕ} → Shows table place part
+    → ((place < ruleCount table) × (part ≡ recordAt table place)) ⊎ ((ruleCount table ≤ place) × (part ≡ []))
+unfolding shownPart
+shown-part {table} {place} s =
+    ⊎-elim (λ h. inl (h, s .answer ∙ rw (lt-ltb place (ruleCount table) h) refl)) (λ h. inr (h, s .answer ∙ rw (le-ltb place (ruleCount table) h) refl))
+    (less place (ruleCount table))

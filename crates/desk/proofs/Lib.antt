@@ -5,8 +5,10 @@ pub mod BuildLaws
 pub mod PairsLaws
 pub mod JudgeLaws
 pub mod Determined
+pub mod InOrder
 pub mod SaidNumbers
 pub mod Reasons
+pub mod LookReasons
 pub mod Demand1
 pub mod Demand2
 pub mod ListedPairs

@@ -55,8 +55,8 @@ listed-cuts {table} t i j =
               share = record {
                 header = s .header;
                 is = is;
-                first = fits-matches (rule-in t low) is .1 (s .first);
-                second = fits-matches (rule-in t high) is .1 (s .second);
+                fits-first = fits-matches (rule-in t low) is .1 (s .first);
+                fits-second = fits-matches (rule-in t high) is .1 (s .second);
               };
               not-over = uncovered t low high .0 (l .not-over);
               not-under = uncovered t high low .0 (l .not-under);
@@ -72,8 +72,8 @@ listed-cuts {table} t i j =
               header = s .header;
               bytes = s .is .bytes;
               size = s .is .size;
-              first = fits-matches (rule-in t low) (s .is) .0 (s .first);
-              second = fits-matches (rule-in t high) (s .is) .0 (s .second);
+              first = fits-matches (rule-in t low) (s .is) .0 (s .fits-first);
+              second = fits-matches (rule-in t high) (s .is) .0 (s .fits-second);
             };
             not-over = uncovered t low high .1 (c .2 .not-over);
             not-under = uncovered t high low .1 (c .2 .not-under);

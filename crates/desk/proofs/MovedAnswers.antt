@@ -22,9 +22,9 @@ use Rattle.desk.specs.Terms.{IsHeader, IsTable, IsIndex, Gets, Unmatched
 use Rattle.desk.proofs.Demand2.{gets-answer, unmatched-answer}
 use Rattle.desk.proofs.Demand3.{judged-moved, judge-accepted}
 
-module _ {table order output after old new header : List ℕ} {before now : Looked} (t : IsTable table) (j : Judges table order output Allowed after)
+module _ {table order output after old new header : List ℕ} {before later : Looked} (t : IsTable table) (j : Judges table order output Allowed after)
     (h : IsHeader header) (x : IsIndex table old) (l : Looks table old header before)
-    (y : IsIndex (take (length table) after) new) (k : Looks (take (length table) after) new header now) where
+    (y : IsIndex (take (length table) after) new) (k : Looks (take (length table) after) new header later) where
   abbrev there : List ℕ
   there = take (length table) after
 
@@ -37,13 +37,13 @@ module _ {table order output after old new header : List ℕ} {before now : Look
       ap (λ (rs : List Rule). judge.answerOf rs (headerValues header)) (ap rulesOf (m .written) ∙ moved-rules table order (m .ordered))
       ∙ move-same-answer (rulesOf table) order (rw (rules-size table) (m .ordered)) (m .allowed) (headerValues header)
 
-  pub moved-same-action : (action : Action) → Gets before action ↔ Gets now action
+  pub moved-same-action : (action : Action) → Gets before action ↔ Gets later action
   moved-same-action action =
       let first = gets-answer t x h l action in
       let second = gets-answer moved-table y h k action in
       (λ g. second .1 (same-answer ∙ first .0 g), λ g. first .1 (sym same-answer ∙ second .0 g))
 
-  pub moved-same-none : Unmatched before ↔ Unmatched now
+  pub moved-same-none : Unmatched before ↔ Unmatched later
   moved-same-none =
       let first = unmatched-answer t x h l in
       let second = unmatched-answer moved-table y h k in

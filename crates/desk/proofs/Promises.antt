@@ -1,8 +1,12 @@
 -- The page of promises, proved: each sentence of specs/Promises.antt under its own name.
 -- Assumes nothing.
 use Rattle.desk.specs.Promises as page
-use Rattle.desk.proofs.Determined.{build-one, lookup-one, pairs-one, judge-one, show-one}
+use Rattle.desk.proofs.Determined.{build-one, lookup-one, pairs-one, judge-one, show-one, shown-part}
+use Rattle.rules.proofs.TestWords.{accepted-or-refused}
+use Rattle.desk.proofs.BuildLaws.{built-beyond}
+use Rattle.desk.proofs.InOrder.{accepted-exact}
 use Rattle.desk.proofs.Reasons as reasons
+use Rattle.desk.proofs.LookReasons as looking
 use Rattle.desk.proofs.Demand1 as one
 use Rattle.desk.proofs.Demand2 as two
 use Rattle.desk.proofs.ListedPairs as pairs
@@ -17,22 +21,32 @@ demand-1 = record {
   pairs-one = pairs-one;
   judge-one = judge-one;
   show-one = show-one;
+  show-part = shown-part;
   build-unknown = one.build-unknown;
   pairs-unknown = one.pairs-unknown;
   judge-unknown = one.judge-unknown;
+  lookup-unknown = one.lookup-unknown;
+  lookup-unknown-there = one.lookup-unknown-there;
   unknown-not-built = one.unknown-not-built;
   unknown-not-listed = one.unknown-not-listed;
   unknown-not-moved = one.unknown-not-moved;
   unknown-not-answered = one.unknown-not-answered;
+  none-no-action = two.none-no-action;
   answered-action = one.answered-action;
   unmatched-no-action = λ t x h l. two.unmatched-no-action t x h l;
-  build-judges = reasons.build-judges;
-  pairs-judges = reasons.pairs-judges;
-  judge-judges = reasons.judge-judges;
+  accepted-exact = accepted-exact;
+  accepted-or-refused = accepted-or-refused;
+  build-by-table = reasons.build-by-table;
+  pairs-by-table = reasons.pairs-by-table;
+  judge-by-table = reasons.judge-by-table;
   build-short = reasons.build-short;
   pairs-short = reasons.pairs-short;
   judge-no-order = reasons.judge-no-order;
   judge-short = λ t x j. reasons.judge-short t j x;
+  lookup-no-header = looking.lookup-no-header;
+  lookup-ragged = λ right l. looking.lookup-ragged l right;
+  lookup-many = λ right whole l. looking.lookup-many l right whole;
+  lookup-short = λ right whole few short l. looking.lookup-short l right whole few short;
   build-untouched = one.build-untouched;
   pairs-untouched = one.pairs-untouched;
   judge-untouched = one.judge-untouched;
@@ -41,9 +55,10 @@ demand-1 = record {
 pub demand-2 : page.Demand2
 demand-2 = record {
   build-done = reasons.build-done;
-  pairs-done = reasons.pairs-done;
+  build-beyond = built-beyond;
   lookup-match = two.lookup-match;
   lookup-none = two.lookup-none;
+  pairs-done = reasons.pairs-done;
   pairs-listed = λ t p. pairs.pairs-listed p t;
   pairs-only = pairs.pairs-only;
   pairs-beyond = pairs.pairs-beyond;

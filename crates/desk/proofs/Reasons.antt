@@ -32,7 +32,7 @@ use Rattle.desk.proofs.SaidNumbers.{first-never, output-never, crossing
 use Rattle.desk.proofs.Determined.{build-one, pairs-one, judge-one}
 
 -- what happens in one of two cases, and cannot in the other, tells which it is
-exactly : {A P Q : Type 0} {r x : A} → P ⊎ Q → (P → r ≡ x) → (Q → r ≡ x → ⊥) → (r ≡ x) ↔ P
+pub exactly : {A P Q : Type 0} {r x : A} → P ⊎ Q → (P → r ≡ x) → (Q → r ≡ x → ⊥) → (r ≡ x) ↔ P
 exactly cases here never = (λ e. ⊎-elim (λ p. p) (λ q. absurd (never q e)) cases, here)
 
 -- a refusal is not done
@@ -42,15 +42,15 @@ not-done why e = let k = numbered why in omega (arith, head-eq-of-cons-eq (e ∙
 -- ---- the table's refusal
 
 module _ {table : List ℕ} {why : Refusal} where
-  pub build-judges : {area after : List ℕ} {r : built.Built} → Builds table area r after → said why ≡ verdict table → r ≡ built.the-variants.Refused why
-  build-judges {area} b e = build-one b (building.refused-builds table area why e) .0
+  pub build-by-table : {area after : List ℕ} {r : built.Built} → Builds table area r after → said why ≡ verdict table → r ≡ built.the-variants.Refused why
+  build-by-table {area} b e = build-one b (building.refused-builds table area why e) .0
 
-  pub pairs-judges : {list after : List ℕ} {r : paired.Paired} → Pairs table list r after → said why ≡ verdict table → r ≡ paired.the-variants.Refused why
-  pairs-judges {list} p e = pairs-one p (pairing.refused-pairs table list why e) .0
+  pub pairs-by-table : {list after : List ℕ} {r : paired.Paired} → Pairs table list r after → said why ≡ verdict table → r ≡ paired.the-variants.Refused why
+  pairs-by-table {list} p e = pairs-one p (pairing.refused-pairs table list why e) .0
 
-  pub judge-judges : {order output after : List ℕ} {r : judged.Judged} → Judges table order output r after → said why ≡ verdict table
+  pub judge-by-table : {order output after : List ℕ} {r : judged.Judged} → Judges table order output r after → said why ≡ verdict table
       → r ≡ judged.the-variants.Refused why
-  judge-judges {order} {output} j e = judge-one j (judging.refused-judges table order output why e) .0
+  judge-by-table {order} {output} j e = judge-one j (judging.refused-judges table order output why e) .0
 
 -- ---- room
 
@@ -96,8 +96,8 @@ module _ {table list after : List ℕ} {r : paired.Paired} (t : IsTable table) (
 pub is-order : (table order : List ℕ) → IsOrder table order ↔ (isOrder (ruleCount table) order ≡ true)
 is-order table order =
     let exact = order-exact (ruleCount table) order in (
-      λ x. exact .1 (x .size, record { small = x .below; differ = x .apart }),
-      λ e. let x = exact .0 e in record { size = x .0; below = x .1 .small; apart = x .1 .differ },
+      λ x. exact .1 (x .size, record { small = x .below; differ = x .unrepeated }),
+      λ e. let x = exact .0 e in record { size = x .0; below = x .1 .small; unrepeated = x .1 .differ },
     )
 
 module _ {table order output after : List ℕ} {r : judged.Judged} (t : IsTable table) (j : Judges table order output r after) where

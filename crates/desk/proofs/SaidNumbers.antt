@@ -26,7 +26,7 @@ first-never n (zero ∷ vs) b p q = q
 first-never n (suc m ∷ vs) b p q = p
 
 -- one of two numbers is said, and n is neither
-either-never : (n : ℕ) (b : Bool) (v w : List ℕ) → NotSaid n v → NotSaid n w → NotSaid n (cond b v w)
+pub either-never : (n : ℕ) (b : Bool) (v w : List ℕ) → NotSaid n v → NotSaid n w → NotSaid n (cond b v w)
 either-never n true v w p q = p
 either-never n false v w p q = q
 

@@ -42,11 +42,11 @@ fits-matches {rule} {header} r h =
 module _ {a b : List ℕ} (ra : IsRule a) (rb : IsRule b) where
   pub share-rules : terms.Share a b ↔ (share (ruleOf a) (ruleOf b) ≡ true)
   share-rules = (
-    λ s. share-exact (ruleOf a) (ruleOf b) .1 (headerValues (s .header), fits-matches ra (s .is) .0 (s .first), fits-matches rb (s .is) .0 (s .second)),
+    λ s. share-exact (ruleOf a) (ruleOf b) .1 (headerValues (s .header), fits-matches ra (s .is) .0 (s .fits-first), fits-matches rb (s .is) .0 (s .fits-second)),
     λ e.
         let s = shared-header a b (ra .bytes) (rb .bytes) (ra .sound) (rb .sound) e in
         let is : IsHeader (s .header) = record { bytes = s .bytes; size = s .size } in
-        record { header = s .header; is = is; first = fits-matches ra is .1 (s .first); second = fits-matches rb is .1 (s .second) },
+        record { header = s .header; is = is; fits-first = fits-matches ra is .1 (s .first); fits-second = fits-matches rb is .1 (s .second) },
   )
 
   covers-same : covers (ruleOf a) (ruleOf b) ≡ all (λ (f : Field). leads (prefixIn a f) (prefixIn b f)) fields
@@ -59,8 +59,8 @@ module _ {a b : List ℕ} (ra : IsRule a) (rb : IsRule b) where
   unfolding ruleOf
   clash-rules =
       let exact = clash-exact (ruleOf a) (ruleOf b) in (
-        λ c. exact .1 (share-rules .0 (c .share), c .differ),
-        λ e. record { share = share-rules .1 (exact .0 e .0); differ = exact .0 e .1 },
+        λ c. exact .1 (share-rules .0 (c .share), c .actions-differ),
+        λ e. record { share = share-rules .1 (exact .0 e .0); actions-differ = exact .0 e .1 },
       )
 
 -- ---- the rules of an accepted table

@@ -2,7 +2,7 @@
 -- Assumes nothing.
 use mathlib.Core.Path.{_≡_}
 use mathlib.Core.Logic.{_↔_, _⊎_}
-use mathlib.Core.Bool.{true}
+use mathlib.Core.Bool.{true, false}
 use mathlib.Core.List.{List, _++_}
 use Prim.Native.Nat.{ℕ, _+_, _*_, _%_, _≤_, _<_}
 use lib.Dec.{leb}
@@ -12,10 +12,10 @@ use Rattle.bits.specs.Path.{Path, bits, prefix, leads}
 use Rattle.bits.specs.Tests.{all, each}
 use Rattle.rules.specs.declared.Action.{Action}
 use Rattle.rules.specs.declared.Decoded.the-variants.{Known}
-use Rattle.rules.specs.Field.{Field, fields, valueIn, lengthIn}
+use Rattle.rules.specs.Field.{Field, fields, fieldAt, valueIn, lengthIn}
 use Rattle.rules.specs.Action.{actionIn}
 use Rattle.rules.specs.Header.{headerSize, headerValues}
-use Rattle.rules.specs.Table.{recordSize, mostRules, ruleCount, recordAt, fault, Accepted}
+use Rattle.rules.specs.Table.{recordSize, mostRules, ruleCount, recordAt, Accepted}
 use Rattle.overlap.specs.Order.{oldPlace, newPlace}
 use Rattle.lookup.specs.declared.Looked.{Looked}
 use Rattle.lookup.specs.declared.Looked.the-variants.{Found}
@@ -24,19 +24,61 @@ use Rattle.desk.specs.declared.Built.the-variants.{Done}
 use Rattle.desk.specs.BuildCall.{Builds}
 use Rattle.desk.specs.LookCall.{Looks}
 
--- ---- headers and rules
+-- ---- the rules of a table
+
+-- "Lengths go up to 32, 32, 16, 16 and 8."
+abbrev pub LengthsFit : List ℕ → Type 0
+LengthsFit rule = (f : ℕ) → f < 5 → lengthIn rule (fieldAt f) ≤ fieldAt f .width
+
+-- "Bits after the prefix are zero."
+abbrev pub RestZero : List ℕ → Type 0
+RestZero rule =
+    (f k : ℕ) → f < 5 → lengthIn rule (fieldAt f) ≤ k → k < fieldAt f .width → getD (bits (fieldAt f .width) (valueIn rule (fieldAt f))) k false ≡ false
+
+-- "unknown kind, or hold with a feed other than 0"
+abbrev pub NoAction : List ℕ → Type 0
+NoAction rule = (1 < getD rule 18 0) ⊎ ((getD rule 18 0 ≡ 0) × (getD rule 19 0 ≡ 0 → ⊥))
+
+-- bytes 20 to 23 are zero
+abbrev pub SpareZero : List ℕ → Type 0
+SpareZero rule = (k : ℕ) → 20 ≤ k → k < recordSize → getD rule k 0 ≡ 0
+
+-- a rule at which none of 3 to 6 is given
+pub record RuleInOrder (rule : List ℕ) : Type 0 where
+  pub lengths : LengthsFit rule
+  pub rest : RestZero rule
+  pub action : NoAction rule → ⊥
+  pub spare : SpareZero rule
+
+-- a table at which none of 1 to 6 is given
+pub record TableInOrder (table : List ℕ) : Type 0 where
+  pub whole : length table % recordSize ≡ 0
+  pub few : ruleCount table ≤ mostRules
+  pub rules : (place : ℕ) → place < ruleCount table → RuleInOrder (recordAt table place)
+
+-- 5 is given at a place: the lowest with a fault, whose rule passes the tests before it, in a table that neither 1 nor 2 refuses
+pub record UnknownAt (table : List ℕ) (place : ℕ) : Type 0 where
+  pub whole : length table % recordSize ≡ 0
+  pub few : ruleCount table ≤ mostRules
+  pub inside : place < ruleCount table
+  pub lower : (earlier : ℕ) → earlier < place → RuleInOrder (recordAt table earlier)
+  pub lengths : LengthsFit (recordAt table place)
+  pub rest : RestZero (recordAt table place)
+  pub unknown : NoAction (recordAt table place)
+
+-- ---- headers, and rules that match them
 
 -- "A packet header is 13 bytes"
 pub record IsHeader (header : List ℕ) : Type 0 where
   pub bytes : Bytes header
   pub size : length header ≡ headerSize
 
--- an accepted table: bytes that neither 1 nor 2 nor the fault of a rule refuses
+-- an accepted table: bytes at which none of 1 to 6 is given (`accepted-exact`)
 pub record IsTable (table : List ℕ) : Type 0 where
   pub bytes : Bytes table
   pub accepted : Accepted table
 
--- a rule's prefix in a field
+-- a rule's prefix in a field (of an accepted rule: a length above the field's would count as the whole)
 abbrev pub prefixIn : List ℕ → Field → Path
 prefixIn rule f = prefix (f .width) (valueIn rule f) (lengthIn rule f)
 
@@ -44,9 +86,9 @@ prefixIn rule f = prefix (f .width) (valueIn rule f) (lengthIn rule f)
 abbrev pub Fits : List ℕ → List ℕ → Type 0
 Fits header rule = all (λ (f : Field). leads (prefixIn rule f) (bits (f .width) (valueIn header f))) fields ≡ true
 
--- no rule of the table does
+-- no rule of the table matches the header
 abbrev pub NoneFits : List ℕ → List ℕ → Type 0
-NoneFits header table = (place : ℕ) → place < ruleCount table → Fits header (recordAt table place) → ⊥
+NoneFits table header = (place : ℕ) → place < ruleCount table → Fits header (recordAt table place) → ⊥
 
 -- the rule at a place matches, carries the action, and no lower one matches: "the lowest place wins"
 pub record Wins (table header : List ℕ) (place : ℕ) (action : Action) : Type 0 where
@@ -57,12 +99,12 @@ pub record Wins (table header : List ℕ) (place : ℕ) (action : Action) : Type
 
 -- ---- two rules
 
--- some header of 13 bytes fits both
+-- some header of 13 bytes fits both: of accepted rules, where "in each field, one prefix is a leading part of the other" (`share-leads`)
 pub record Share (a b : List ℕ) : Type 0 where
   pub header : List ℕ
   pub is : IsHeader header
-  pub first : Fits header a
-  pub second : Fits header b
+  pub fits-first : Fits header a
+  pub fits-second : Fits header b
 
 -- "One covers another when each of its prefixes is a leading part of the other's."
 abbrev pub Covers : List ℕ → List ℕ → Type 0
@@ -74,8 +116,8 @@ pub record CutsAcross (a b : List ℕ) : Type 0 where
   pub not-over : Covers a b → ⊥
   pub not-under : Covers b a → ⊥
 
--- the first pairs of a list, so many, are "listed exactly, once, in order": places i and j are one of them when their rules cut across each
--- other; and a later pair has a higher lower place, or the same with a higher second one
+-- the first `count` pairs of a list are "listed exactly, once, in order": places i and j are one of them exactly when i < j and their rules
+-- cut across each other; and a later pair has a higher lower place, or the same with a higher second one
 pub record ListsPairs (table list : List ℕ) (count : ℕ) : Type 0 where
   pub exact : (i j : ℕ) → ((k : ℕ) × (k < count) × (getD list (2 * k) 0 ≡ i) × (getD list (2 * k + 1) 0 ≡ j))
       ↔ ((i < j) × (j < ruleCount table) × CutsAcross (recordAt table i) (recordAt table j))
@@ -85,7 +127,7 @@ pub record ListsPairs (table list : List ℕ) (count : ℕ) : Type 0 where
 -- "shares a header and differs in action"
 pub record Clash (a b : List ℕ) : Type 0 where
   pub share : Share a b
-  pub differ : actionIn a ≡ actionIn b → ⊥
+  pub actions-differ : actionIn a ≡ actionIn b → ⊥
 
 -- ---- orders
 
@@ -93,31 +135,18 @@ pub record Clash (a b : List ℕ) : Type 0 where
 pub record IsOrder (table order : List ℕ) : Type 0 where
   pub size : length order ≡ ruleCount table
   pub below : (k : ℕ) → k < ruleCount table → oldPlace order k < ruleCount table
-  pub apart : (k l : ℕ) → k < l → l < ruleCount table → oldPlace order k ≡ oldPlace order l → ⊥
+  pub unrepeated : (k l : ℕ) → k < l → l < ruleCount table → oldPlace order k ≡ oldPlace order l → ⊥
 
--- the rules at places i and j, in this order, "change order" and clash
+-- two rules, by their old places, lower and then higher, that "change order" and clash
 pub record Turned (table order : List ℕ) (i j : ℕ) : Type 0 where
+  pub rises : i < j
+  pub inside : j < ruleCount table
   pub changes : newPlace order j < newPlace order i
   pub clash : Clash (recordAt table i) (recordAt table j)
 
 -- "no two rules that share a header and differ in action change order"
 abbrev pub NoneTurned : List ℕ → List ℕ → Type 0
-NoneTurned table order = (i j : ℕ) → i < j → j < ruleCount table → Turned table order i j → ⊥
-
--- ---- actions that are not known
-
--- 5: "unknown kind, or hold with a feed other than 0"
-abbrev pub NoAction : List ℕ → Type 0
-NoAction rule = (1 < getD rule 18 0) ⊎ ((getD rule 18 0 ≡ 0) × (getD rule 19 0 ≡ 0 → ⊥))
-
--- a table of whole records, not too many, whose lowest place with a fault is this one, and the first test that fails there is 5
-pub record UnknownAt (table : List ℕ) (place : ℕ) : Type 0 where
-  pub whole : length table % recordSize ≡ 0
-  pub few : ruleCount table ≤ mostRules
-  pub inside : place < ruleCount table
-  pub lowest : (lower : ℕ) → lower < place → fault (recordAt table lower) ≡ 0
-  pub fifth : fault (recordAt table place) ≡ 5
-  pub unknown : NoAction (recordAt table place)
+NoneTurned table order = (i j : ℕ) → Turned table order i j → ⊥
 
 -- ---- the index, and what lookup answers
 
@@ -148,16 +177,14 @@ Unmatched r = (falses : ℕ) × (r ≡ Found (record { falses = falses; outcome 
 pub record Differ (a b header : List ℕ) : Type 0 where
   pub there-table : IsTable (a ++ b)
   pub back-table : IsTable (b ++ a)
-  pub apart : {there back : List ℕ} {first second : Looked} → IsIndex (a ++ b) there → Looks (a ++ b) there header first
+  pub answers-differ : {there back : List ℕ} {first second : Looked} → IsIndex (a ++ b) there → Looks (a ++ b) there header first
       → IsIndex (b ++ a) back → Looks (b ++ a) back header second → (x y : Action) × Gets first x × Gets second y × (x ≡ y → ⊥)
 
 -- "the first pair by old places (lower, then higher) that changes order, shares a header and differs in action, and their lowest shared
 -- header"
 pub record IsCrossing (table order : List ℕ) (lower higher : ℕ) (header : List ℕ) : Type 0 where
-  pub rises : lower < higher
-  pub inside : higher < ruleCount table
   pub turned : Turned table order lower higher
-  pub first : (i j : ℕ) → i < j → j < ruleCount table → (i < lower) ⊎ ((i ≡ lower) × (j < higher)) → Turned table order i j → ⊥
+  pub first-pair : (i j : ℕ) → (i < lower) ⊎ ((i ≡ lower) × (j < higher)) → Turned table order i j → ⊥
   pub is : IsHeader header
   pub fits-lower : Fits header (recordAt table lower)
   pub fits-higher : Fits header (recordAt table higher)

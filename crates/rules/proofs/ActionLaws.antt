@@ -34,6 +34,11 @@ unfolding isUnknown
 known (Known a) e = (a, refl)
 known Unknown e = absurd (true≢false e)
 
+pub unknown : (d : Decoded) → isUnknown d ≡ true → d ≡ Unknown
+unfolding isUnknown
+unknown (Known a) e = absurd (false≢true e)
+unknown Unknown e = refl
+
 pub known-one : {a b : Action} → Known a ≡ Known b → a ≡ b
 known-one {a} e = ap told e
   where

@@ -14,10 +14,9 @@ use borrow.Author.Tests.{eqb-true, eqb-false, eq-eqb, ne-eqb, ltb-false, le-ltb}
 use Rattle.bits.specs.Tests.{lowest}
 use Rattle.bits.proofs.TestLaws.{Lowest, Told, lowest-told, lowest-some}
 use Rattle.rules.specs.declared.Action.the-variants.{Hold, Deliver}
-use Rattle.rules.specs.declared.Decoded.{Decoded}
 use Rattle.rules.specs.declared.Decoded.the-variants.{Known, Unknown}
-use Rattle.rules.specs.Action.{decoded, actionIn, isUnknown}
-use Rattle.rules.specs.Table.{recordSize, mostRules, ruleCount, recordAt, longPrefix, strayBit, unknownAction, spareBytes, ruleTests, firstFailed, fault, ruleSaid, faulty, placeSaid, rulesSaid, verdict}
+use Rattle.rules.specs.Action.{decoded, isUnknown}
+use Rattle.rules.specs.Table.{recordSize, mostRules, ruleCount, recordAt, fault, ruleSaid, faulty, placeSaid, rulesSaid, verdict}
 use Rattle.rules.proofs.TableLaws.{faulty-fault, clean-fault}
 
 -- ---- the first fault of a table
@@ -97,15 +96,3 @@ unknown-exact kind feed = (told (eqb kind 0) refl (eqb kind 1) refl (eqb feed 0)
 
     held : (kind ≡ 0) × (feed ≡ 0 → ⊥) → decoded kind feed ≡ Unknown
     held h = unfold decoded in rw (eq-eqb kind 0 (h .0), ne-eqb feed 0 (h .1))
-
--- where 5 is the first test that fails, the action is not known
-pub fifth-unknown : (bytes : List ℕ) → fault bytes ≡ 5 → actionIn bytes ≡ Unknown
-unfolding fault firstFailed ruleTests unknownAction
-fifth-unknown bytes e = go (longPrefix bytes) (strayBit bytes) (actionIn bytes) (spareBytes bytes) e
-  where
-    go : (long stray : Bool) (d : Decoded) (spare : Bool) → _≡_ {A = ℕ} (cond long 3 (cond stray 4 (cond (isUnknown d) 5 (cond spare 6 0)))) 5 → d ≡ Unknown
-    go true stray d spare q = absurd (omega arith)
-    go false true d spare q = absurd (omega arith)
-    go false false Unknown spare q = refl
-    go false false (Known a) true q = unfold isUnknown in absurd (omega (arith, q))
-    go false false (Known a) false q = unfold isUnknown in absurd (omega (arith, q))

@@ -2,6 +2,7 @@
 pub mod FieldLaws
 pub mod TableLaws
 pub mod FaultLaws
+pub mod TestWords
 pub mod SaidLaws
 pub mod SpanLaws
 pub mod OverlapLaws

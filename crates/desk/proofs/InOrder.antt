@@ -1,0 +1,96 @@
+-- A rule and a table in order, in the words of the promises: a table is accepted exactly when it is, and 5 is given at a place exactly when
+-- the words say so.
+-- Assumes nothing.
+use mathlib.Core.Path.{_≡_, ap}
+use mathlib.Core.Logic.{_↔_}
+use mathlib.Core.Bool.{false}
+use mathlib.Core.List.{List}
+use Prim.Native.Nat.{ℕ, _<_}
+use native.Mathlib.Omega.{arith}
+use lib.ListN.{length}
+use Rattle.bits.proofs.TestLaws.{clash, refuted}
+use Rattle.rules.specs.Action.{actionIn, isUnknown}
+use Rattle.rules.specs.Table.{recordSize, ruleCount, recordAt, unknownAction, fault, Accepted}
+use Rattle.rules.proofs.ActionLaws.{unknown}
+use Rattle.rules.proofs.TableLaws.{faultless, length-record, accepted-sound, sound-accepted}
+use Rattle.rules.proofs.FaultLaws.{FaultAt, unknown-exact}
+use Rattle.rules.proofs.TestWords.{long-exact, rest-exact, spare-exact, faultless-fault, fifth-exact}
+use Rattle.desk.specs.Terms.{NoAction, RuleInOrder, TableInOrder, UnknownAt}
+
+-- ---- a rule
+
+known-exact : (rule : List ℕ) → (unknownAction rule ≡ false) ↔ (NoAction rule → ⊥)
+unfolding unknownAction actionIn isUnknown
+known-exact rule = (
+  λ e none-there. clash (ap isUnknown (unknown-exact _ _ .1 none-there)) e,
+  λ some. refuted (unknownAction rule) (λ e. some (unknown-exact _ _ .0 (unknown (actionIn rule) e))),
+)
+
+rule-in-order : (rule : List ℕ) → length rule ≡ recordSize → (fault rule ≡ 0) ↔ RuleInOrder rule
+rule-in-order rule whole = (
+  λ e.
+      let f = faultless rule e in
+      record {
+        lengths = long-exact rule .0 (f .short);
+        rest = rest-exact rule .0 (f .clean);
+        action = known-exact rule .0 (f .known);
+        spare = spare-exact rule whole .0 (f .spare);
+      },
+  λ r.
+      faultless-fault rule (record {
+        short = long-exact rule .1 (r .lengths);
+        clean = rest-exact rule .1 (r .rest);
+        known = known-exact rule .1 (r .action);
+        spare = spare-exact rule whole .1 (r .spare);
+      }),
+)
+
+-- ---- a table
+
+record-whole : (table : List ℕ) (place : ℕ) → place < ruleCount table → length (recordAt table place) ≡ recordSize
+record-whole table place inside = length-record table place (omega arith)
+
+pub accepted-exact : (table : List ℕ) → Accepted table ↔ TableInOrder table
+accepted-exact table = (
+  λ ok.
+      let s = accepted-sound table ok in
+      record {
+        whole = s .whole;
+        few = s .few;
+        rules = λ place h. rule-in-order (recordAt table place) (record-whole table place h) .0 (s .faultless place h);
+      },
+  λ t.
+      sound-accepted table (record {
+        whole = t .whole;
+        few = t .few;
+        faultless = λ place h. rule-in-order (recordAt table place) (record-whole table place h) .1 (t .rules place h);
+      }),
+)
+
+-- ---- 5 at a place
+
+module _ (table : List ℕ) (place : ℕ) where
+  pub fault-unknown : FaultAt table 5 place → UnknownAt table place
+  unfolding actionIn
+  fault-unknown f =
+      let tests = fifth-exact (recordAt table place) .0 (f .first) in
+      record {
+        whole = f .whole;
+        few = f .few;
+        inside = f .inside;
+        lower = λ j h. rule-in-order (recordAt table j) (record-whole table j (omega (arith, f .inside))) .0 (f .earlier j h);
+        lengths = long-exact (recordAt table place) .0 (tests .0);
+        rest = rest-exact (recordAt table place) .0 (tests .1);
+        unknown = unknown-exact _ _ .0 (tests .2);
+      }
+
+  pub unknown-fault : UnknownAt table place → FaultAt table 5 place
+  unfolding actionIn
+  unknown-fault u = record {
+    whole = u .whole;
+    few = u .few;
+    inside = u .inside;
+    earlier = λ j h. rule-in-order (recordAt table j) (record-whole table j (omega (arith, u .inside))) .1 (u .lower j h);
+    first = fifth-exact (recordAt table place) .1
+        (long-exact (recordAt table place) .1 (u .lengths), rest-exact (recordAt table place) .1 (u .rest), unknown-exact _ _ .1 (u .unknown));
+  }
