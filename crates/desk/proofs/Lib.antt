@@ -1,5 +1,6 @@
 -- The promises of the desk, proved.
 pub mod TermLaws
+pub mod FalseBlocks
 pub mod LentLaws
 pub mod BuildLaws
 pub mod PairsLaws

@@ -7,5 +7,6 @@ pub mod PairsCall
 pub mod JudgeCall
 pub mod Show
 pub mod Terms
+pub mod FalseBlock
 pub mod Promises
 pub mod Worked

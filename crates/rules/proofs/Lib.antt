@@ -10,4 +10,6 @@ pub mod RuleLaws
 pub mod Determined
 pub mod ActionLaws
 pub mod MatchLaws
+pub mod MatchInLaws
+pub mod BlockLaws
 pub mod HeaderLaws
