@@ -4,6 +4,7 @@ pub mod ListLaws
 pub mod EachLaws
 pub mod PlaceLaws
 pub mod MemberLaws
+pub mod RisingLaws
 pub mod PassLaws
 pub mod StoreLaws
 pub mod RowLaws

@@ -6,11 +6,10 @@ use mathlib.Core.Bool.{Bool, true, false}
 use mathlib.Core.List.{List, [], _∷_, _++_, List·Memᴰ, List·Memᴰ·head, List·Memᴰ·not-nil, List·Memᴰ·append-cases, List·Memᴰ·eq-of-singleton, Memᴰ·append-left, Memᴰ·append-right}
 use Prim.Native.Nat.{ℕ, zero, suc, _+_, _≤_, _<_}
 use native.Mathlib.Omega.{arith}
-use lib.ListN.{length, getD, length-append, List·getD-append}
-use lib.Seq.{getD-append-seam}
+use lib.ListN.{length, length-append}
 use Rattle.bits.specs.Tests.{all, upFrom, count}
 use Rattle.bits.proofs.TestLaws.{decided, clash, and-both, equal}
-use Rattle.bits.proofs.MemberLaws.{place-member}
+use Rattle.bits.proofs.RisingLaws.{Rising, rising-snoc}
 
 -- a test that holds at each of a run of numbers holds over the run
 pub up-all : (test : ℕ → Bool) (k n : ℕ) → ((j : ℕ) → k ≤ j → j < k + n → test j ≡ true) → all test (upFrom k n) ≡ true
@@ -21,24 +20,7 @@ up-all test k (suc n) e =
 
 -- ---- those that pass, listed
 
--- each after all lower ones
-abbrev pub Rising : List ℕ → Type 0
-Rising l = (i j : ℕ) → i < j → j < length l → getD l i 0 < getD l j 0
-
--- one more at the end, above all others
-rising-snoc : (l : List ℕ) (n : ℕ) → Rising l → ((j : ℕ) → List·Memᴰ j l → j < n) → Rising (l ++ (n ∷ []))
-rising-snoc l n r below i j h inside =
-    let size = length-append l (n ∷ []) in
-    let low : i < length l = omega arith in
-    let first = List·getD-append l (n ∷ []) 0 i low in
-    ⊎-elim
-    (λ (e : j ≡ length l).
-    let last : getD (l ++ (n ∷ [])) j 0 ≡ n = ap (λ (k : ℕ). getD (l ++ (n ∷ [])) k 0) e ∙ getD-append-seam l n [] 0 in
-    omega (arith, below (getD l i 0) (place-member 0 l i low)))
-    (λ (g : j < length l). omega (arith, List·getD-append l (n ∷ []) 0 j g, r i j h g))
-    (equal j (length l) (omega arith))
-
--- the places below n that pass
+-- the places below n that pass, in a rising list
 pub record Passing (test : ℕ → Bool) (n : ℕ) : Type 0 where
   pub listed : List ℕ
   pub size : length listed ≡ count test n

@@ -1,4 +1,4 @@
--- The number of false blocks that table and header fix is that of the blocks that are false by their records.
+-- The number of false blocks that table and header fix is that of the blocks that are false by their records, and no other is.
 -- Assumes nothing.
 use mathlib.Core.Path.{_≡_, refl, sym, ap, _∙_}
 use mathlib.Core.Logic.{_↔_}
@@ -8,6 +8,7 @@ use Prim.Native.Nat.{ℕ, _*_, _≤_, _<_}
 use native.Mathlib.Omega.{arith}
 use lib.ListN.{length}
 use Rattle.bits.proofs.TestLaws.{clash, refuted}
+use Rattle.bits.proofs.RisingLaws.{rising-size}
 use Rattle.bits.proofs.PassLaws.{passing}
 use Rattle.rules.specs.Header.{headerValues}
 use Rattle.rules.specs.Match.{matches, ruleAt, firstMatch, matchesIn, blockOf, deceives, blocksBefore, falseBlocks}
@@ -73,3 +74,10 @@ module _ {table header : List ℕ} (t : IsTable table) (h : IsHeader header) whe
             (λ m. same .0 (is .0 (p .exact b .0 m)), λ d. p .exact b .1 (is .1 (same .1 d)));
         size = p .size;
       }
+
+-- no two numbers are so
+pub counts-one : {table header : List ℕ} {m n : ℕ} → CountsFalse table header m → CountsFalse table header n → m ≡ n
+counts-one c d =
+    sym (c .size)
+    ∙ rising-size (c .found) (d .found) (c .rising) (d .rising) (λ b m. d .exact b .1 (c .exact b .0 m)) (λ b m. c .exact b .1 (d .exact b .0 m))
+    ∙ d .size
