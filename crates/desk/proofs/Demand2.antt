@@ -142,8 +142,8 @@ module _ {table area header : List ℕ} {r : Looked} (t : IsTable table) (x : Is
   pub unmatched-no-action : {action : Action} → NoneFits table header → Gets r action → ⊥
   unmatched-no-action none-fits g = none-no-action (lookup-none .1 none-fits) g
 
-  pub lookup-done : (a : Answer) × (r ≡ Found a) × (a .falses ≡ falses) × (a .falses ≤ blocks)
-  lookup-done = go (firstMatch rules values) (match-told rules values) refl
+  pub lookup-found : (a : Answer) × (r ≡ Found a) × (a .falses ≡ falses) × (a .falses ≤ blocks)
+  lookup-found = go (firstMatch rules values) (match-told rules values) refl
     where
       few : falses ≤ blocks
       few = answer-few table (t .accepted) header

@@ -1,6 +1,6 @@
 -- The number of false blocks that table and header fix is that of the blocks that are false by their records, and no other is.
 -- Assumes nothing.
-use mathlib.Core.Path.{_≡_, refl, sym, ap, _∙_}
+use mathlib.Core.Path.{_≡_, refl, sym, ap, subst, _∙_}
 use mathlib.Core.Logic.{_↔_}
 use mathlib.Core.Bool.{true}
 use mathlib.Core.List.{List}
@@ -18,14 +18,19 @@ use Rattle.rules.proofs.MatchLaws.{rules-size, rules-at}
 use Rattle.rules.proofs.MatchInLaws.{matches-in-leads}
 use Rattle.rules.proofs.BlockLaws.{Deceiving, false-exact}
 use Rattle.area.specs.Shape.{blocks}
-use Rattle.desk.specs.Terms.{IsHeader, IsTable}
+use Rattle.lookup.specs.declared.Answer.{Answer}
+use Rattle.lookup.specs.declared.Looked.{Looked}
+use Rattle.lookup.specs.declared.Looked.the-variants.{Found}
+use Rattle.desk.specs.LookCall.{Looks}
+use Rattle.desk.specs.Terms.{IsHeader, IsTable, IsIndex}
 use Rattle.desk.specs.FalseBlock.{FitsIn, FalseBlock, CountsFalse}
 use Rattle.desk.proofs.TermLaws.{rule-in, fits-at}
+use Rattle.desk.proofs.Demand2.{lookup-found}
 
 module _ {table header : List ℕ} (t : IsTable table) (h : IsHeader header) where
   -- a rule of the table matches in a field when its record does
   fits-in : (place : ℕ) → place < ruleCount table → (f : ℕ) → f < 5
-      → FitsIn (recordAt table place) header f ↔ (matchesIn (headerValues header) f (ruleAt (rulesOf table) place) ≡ true)
+      → FitsIn header (recordAt table place) f ↔ (matchesIn (headerValues header) f (ruleAt (rulesOf table) place) ≡ true)
   fits-in place inside f hf =
       let r = rule-in t inside in
       let same =
@@ -74,6 +79,13 @@ module _ {table header : List ℕ} (t : IsTable table) (h : IsHeader header) whe
             (λ m. same .0 (is .0 (p .exact b .0 m)), λ d. p .exact b .1 (is .1 (same .1 d)));
         size = p .size;
       }
+
+-- what lookup answers over an index has so many
+pub lookup-done : {table area header : List ℕ} {r : Looked} → IsTable table → IsIndex table area → IsHeader header → Looks table area header r
+    → (a : Answer) × (r ≡ Found a) × CountsFalse table header (a .falses) × (a .falses ≤ blocks)
+lookup-done {table} {area} {header} t x h l =
+    let d = lookup-found t x h l in
+    (d .0, d .1, subst (CountsFalse table header) (sym (d .2)) (counts-false t h), d .3)
 
 -- no two numbers are so
 pub counts-one : {table header : List ℕ} {m n : ℕ} → CountsFalse table header m → CountsFalse table header n → m ≡ n

@@ -1,6 +1,5 @@
 -- The promises of the desk, proved.
 pub mod TermLaws
-pub mod FalseBlocks
 pub mod LentLaws
 pub mod BuildLaws
 pub mod PairsLaws
@@ -12,6 +11,7 @@ pub mod Reasons
 pub mod LookReasons
 pub mod Demand1
 pub mod Demand2
+pub mod FalseBlocks
 pub mod ListedPairs
 pub mod Demand3
 pub mod MovedAnswers

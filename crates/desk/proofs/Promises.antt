@@ -9,6 +9,7 @@ use Rattle.desk.proofs.Reasons as reasons
 use Rattle.desk.proofs.LookReasons as looking
 use Rattle.desk.proofs.Demand1 as one
 use Rattle.desk.proofs.Demand2 as two
+use Rattle.desk.proofs.FalseBlocks.{lookup-done, counts-one}
 use Rattle.desk.proofs.ListedPairs as pairs
 use Rattle.desk.proofs.Demand3 as three
 use Rattle.desk.proofs.MovedAnswers.{moved-same-action, moved-same-none}
@@ -62,7 +63,8 @@ demand-2 = record {
   pairs-listed = λ t p. pairs.pairs-listed p t;
   pairs-only = pairs.pairs-only;
   pairs-beyond = pairs.pairs-beyond;
-  lookup-done = two.lookup-done;
+  lookup-done = lookup-done;
+  falses-one = counts-one;
 }
 
 pub demand-3 : page.Demand3

@@ -13,12 +13,12 @@ use Rattle.desk.specs.Terms.{prefixIn, Fits}
 
 -- a rule matches in field f: its prefix there "is a leading part of the header's value"
 abbrev pub FitsIn : List ℕ → List ℕ → ℕ → Type 0
-FitsIn rule header f = leads (prefixIn rule (fieldAt f)) (bits (fieldAt f .width) (valueIn header (fieldAt f))) ≡ true
+FitsIn header rule f = leads (prefixIn rule (fieldAt f)) (bits (fieldAt f .width) (valueIn header (fieldAt f))) ≡ true
 
 -- "a block before the winner's (any block, where none wins) in which each field has some matching rule and no rule matches in all five": so
 -- no rule of it or of a lower block does
 pub record FalseBlock (table header : List ℕ) (b : ℕ) : Type 0 where
-  pub each-field : (f : ℕ) → f < 5 → (place : ℕ) × (place < ruleCount table) × (place / 32 ≡ b) × FitsIn (recordAt table place) header f
+  pub each-field : (f : ℕ) → f < 5 → (place : ℕ) × (place < ruleCount table) × (place / 32 ≡ b) × FitsIn header (recordAt table place) f
   pub none-yet : (place : ℕ) → place < ruleCount table → place / 32 ≤ b → Fits header (recordAt table place) → ⊥
 
 -- the false blocks are n: a rising list of n blocks has them all, and no others

@@ -12,10 +12,9 @@ use Rattle.rules.specs.declared.Crossing.{Crossing}
 use Rattle.rules.specs.declared.Refusal.{Refusal}
 use Rattle.rules.specs.declared.Refusal.the-variants.{RaggedTable, TooManyRules, UnknownAction, ShortArea, NotAHeader, DamagedArea, ShortList, NotAnOrder, ShortOutput, NotAllowed}
 use Rattle.rules.specs.Action.{actionIn}
-use Rattle.rules.specs.Header.{headerSize, headerValues, headerBytes}
-use Rattle.rules.specs.Match.{falseBlocks}
+use Rattle.rules.specs.Header.{headerSize, headerBytes}
 use Rattle.rules.specs.Refusal.{values, said}
-use Rattle.rules.specs.Table.{recordSize, mostRules, ruleCount, recordAt, rulesOf, verdict, Accepted}
+use Rattle.rules.specs.Table.{recordSize, mostRules, ruleCount, recordAt, verdict, Accepted}
 use Rattle.area.specs.Shape.{blocks}
 use Rattle.overlap.specs.Order.{movedTable, inPlace, wayBack, andThen}
 use Rattle.lookup.specs.declared.Answer.{Answer}
@@ -34,6 +33,7 @@ use Rattle.desk.specs.LookCall.{Looks}
 use Rattle.desk.specs.PairsCall.{pairCount, Pairs}
 use Rattle.desk.specs.JudgeCall.{Judges}
 use Rattle.desk.specs.Show.{Shows}
+use Rattle.desk.specs.FalseBlock.{CountsFalse}
 use Rattle.desk.specs.Terms.{TableInOrder, IsHeader, IsTable, NoneFits, Wins, ListsPairs, IsOrder, NoneTurned, NoAction, UnknownAt, IsIndex, Matched, Gets, Unmatched, IsCrossing}
 
 pub record Demand1 : Type 0 where
@@ -136,9 +136,10 @@ pub record Demand2 : Type 0 where
       → (m ≡ n) × ((k : ℕ) → k < m → (getD one (2 * k) 0 ≡ getD other (2 * k) 0) × (getD one (2 * k + 1) 0 ≡ getD other (2 * k + 1) 0))
   pub pairs-beyond : {table list after : List ℕ} {count : ℕ} → Pairs table list (Listed count) after → drop (2 * count) after ≡ drop (2 * count) list
   -- ---- "False blocks are what table and header fix."
-  -- There are at most 8; and no refusal comes, neither 9 nor 5:
+  -- There are at most 8, and one number counts them; and no refusal comes, neither 9 nor 5:
   pub lookup-done : {table area header : List ℕ} {r : Looked} → IsTable table → IsIndex table area → IsHeader header → Looks table area header r
-      → (a : Answer) × (r ≡ Found a) × (a .falses ≡ falseBlocks 32 blocks (rulesOf table) (headerValues header)) × (a .falses ≤ blocks)
+      → (a : Answer) × (r ≡ Found a) × CountsFalse table header (a .falses) × (a .falses ≤ blocks)
+  pub falses-one : {table header : List ℕ} {m n : ℕ} → CountsFalse table header m → CountsFalse table header n → m ≡ n
 
 pub record Demand3 : Type 0 where
   -- ---- "Accepted table, any order of its places, an output with room: the move is allowed, and the table written in that order, exactly when
