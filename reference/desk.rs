@@ -1,4 +1,4 @@
-//! The rule desk, read straight from docs/01-scope.md ("01" below) and kept
+//! The rule desk, read straight from the paper with the rules ("01" below) and kept
 //! as plain as possible: rules are scanned one by one, the index is made from
 //! a list of paths in order of first appearance. Nothing here is fast.
 

@@ -47,7 +47,7 @@ Reads before whole after Failure = Unit
 
 -- ---- all reads
 
--- the bytes that came so far, one piece behind another
+-- some bytes of which the room holds the first, as many as there is room for: there are such for every room and length (`held-some`)
 pub record Came (room : List ℕ) (whole : ℕ) : Type 0 where
   pub bytes : List ℕ
   pub held : Holds bytes room whole
@@ -56,6 +56,6 @@ pub record Came (room : List ℕ) (whole : ℕ) : Type 0 where
 abbrev pub unreadable : ℕ
 unreadable = 1
 
--- all came, or it cannot be read
+-- so many came, or it cannot be read
 abbrev pub WholeRead : List ℕ → ℕ → Type 0
 WholeRead room whole = Came room whole ⊎ (whole ≡ unreadable)

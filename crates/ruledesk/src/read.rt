@@ -1,6 +1,7 @@
-// Reading to the end. No contract can say what a read brings; what is said is that held bytes stay, that what
-// comes stands behind them, and that the whole length is the sum. Of `read_whole` this says little, since any
-// room could have been read so (`held-some`): it is `read_on` and the loop's invariant that refuse a wrong step.
+// Reading to the end. No contract can say what a read brings, or that it was asked; what is said of each read is
+// that held bytes stay, that what comes stands behind them, and that the whole length is the sum. Of `read_whole`
+// that says nothing more, since any room and length could have come about so (`held-some`): its contract is the
+// loop's invariant, by which a step that is wrong is refused.
 ghost use mathlib.Core.Path.{_≡_};
 ghost use Prim.Native.Nat.{_<_};
 ghost use lib.ListN.{length};
