@@ -30,7 +30,7 @@ use Rattle.desk.specs.LookCall.{Looks}
 abbrev pub LengthsFit : List ℕ → Type 0
 LengthsFit rule = (f : ℕ) → f < 5 → lengthIn rule (fieldAt f) ≤ fieldAt f .width
 
--- "Bits after the prefix are zero."
+-- "Bits after the prefix are zero": bit k counts from the top
 abbrev pub RestZero : List ℕ → Type 0
 RestZero rule =
     (f k : ℕ) → f < 5 → lengthIn rule (fieldAt f) ≤ k → k < fieldAt f .width → getD (bits (fieldAt f .width) (valueIn rule (fieldAt f))) k false ≡ false
