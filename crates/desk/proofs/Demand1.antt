@@ -32,7 +32,7 @@ use Rattle.desk.specs.LookCall.{Looks}
 use Rattle.desk.specs.PairsCall.{pairedSaid, pairCount, pairsSaid, pairsLeft, Pairs}
 use Rattle.desk.specs.JudgeCall.{judgedSaid, orderSaid, outputSaid, crossingSaid, judgeSaid, judgeLeft, Judges}
 use Rattle.desk.specs.Terms.{NoAction, UnknownAt, Matched}
-use Rattle.desk.proofs.InOrder.{fault-unknown, unknown-fault}
+use Rattle.desk.proofs.FaultlessLaws.{fault-unknown, unknown-fault}
 use Rattle.desk.proofs.SaidNumbers.{NotSaid, first-never, room-never, order-never, output-never, crossing-never}
 use Rattle.desk.proofs.LentLaws.{lent-refused, done-accepted}
 use Rattle.desk.proofs.BuildLaws.{refused-builds}

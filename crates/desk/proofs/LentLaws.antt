@@ -14,7 +14,7 @@ use Rattle.rules.specs.declared.Refusal.{Refusal}
 use Rattle.rules.specs.Refusal.{said, firstRefusal}
 use Rattle.rules.specs.Table.{verdict, Accepted}
 use Rattle.rules.proofs.SaidLaws.{numbered, refused-first}
-use Rattle.rules.proofs.TableLaws.{verdict-either}
+use Rattle.rules.proofs.TestWords.{accepted-or-refused}
 use Rattle.desk.specs.Lent.{roomSaid, lentAfter}
 
 -- what is said, and what is left: after a refusal, the memory as it was
@@ -73,10 +73,10 @@ pub done-accepted : (table rest vs : List ℕ) → firstRefusal (verdict table) 
 unfolding firstRefusal
 done-accepted table rest vs e =
     ⊎-elim (λ (ok : Accepted table). ok)
-    (λ (bad : (n : ℕ) × (ws : List ℕ) × (verdict table ≡ suc n ∷ ws)).
-    let said : suc (bad .0) ∷ bad .1 ≡ 0 ∷ vs = sym (ap (λ (l : List ℕ). firstRefusal l rest) (bad .2)) ∙ e in
-    absurd (omega (arith, head-eq-of-cons-eq said)))
-    (verdict-either table)
+    (λ (bad : (why : Refusal) × (said why ≡ verdict table)).
+    let refused : said (bad .0) ≡ 0 ∷ vs = sym (ap (λ (l : List ℕ). firstRefusal l rest) (sym (bad .1)) ∙ refused-first (bad .0) rest) ∙ e in
+    absurd (omega (arith, head-eq-of-cons-eq (sym (numbered (bad .0) .2) ∙ refused))))
+    (accepted-or-refused table)
 
 pub done-written : (says written before vs : List ℕ) → says ≡ 0 ∷ vs → lentAfter says written before ≡ written
 unfolding lentAfter

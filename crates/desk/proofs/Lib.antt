@@ -5,7 +5,7 @@ pub mod BuildLaws
 pub mod PairsLaws
 pub mod JudgeLaws
 pub mod Determined
-pub mod InOrder
+pub mod FaultlessLaws
 pub mod SaidNumbers
 pub mod Reasons
 pub mod LookReasons

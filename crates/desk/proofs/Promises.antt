@@ -4,7 +4,7 @@ use Rattle.desk.specs.Promises as page
 use Rattle.desk.proofs.Determined.{build-one, lookup-one, pairs-one, judge-one, show-one, shown-part}
 use Rattle.rules.proofs.TestWords.{accepted-or-refused}
 use Rattle.desk.proofs.BuildLaws.{built-beyond}
-use Rattle.desk.proofs.InOrder.{accepted-exact}
+use Rattle.desk.proofs.FaultlessLaws.{accepted-exact}
 use Rattle.desk.proofs.Reasons as reasons
 use Rattle.desk.proofs.LookReasons as looking
 use Rattle.desk.proofs.Demand1 as one

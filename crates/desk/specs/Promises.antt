@@ -1,5 +1,7 @@
 -- The page of promises: the three demands, sentence by sentence, of what the calls' statements give (`Builds`, `Looks`, `Pairs`,
--- `Judges`, `Shows`) and of nothing inside. proofs/Promises.antt proves each under its own name; Terms.antt has the words.
+-- `Judges`, `Shows`) and of nothing inside; five fields say of the words themselves that they fix what they speak of (`none-no-action`,
+-- `accepted-exact`, `accepted-or-refused`, `pairs-only`, `falses-one`). proofs/Promises.antt proves each under its own name; Terms.antt and
+-- FalseBlock.antt have the words.
 -- Assumes nothing.
 use mathlib.Core.Path.{_≡_}
 use mathlib.Core.Logic.{_↔_, _⊎_}
@@ -34,7 +36,7 @@ use Rattle.desk.specs.PairsCall.{pairCount, Pairs}
 use Rattle.desk.specs.JudgeCall.{Judges}
 use Rattle.desk.specs.Show.{Shows}
 use Rattle.desk.specs.FalseBlock.{CountsFalse}
-use Rattle.desk.specs.Terms.{TableInOrder, IsHeader, IsTable, NoneFits, Wins, ListsPairs, IsOrder, NoneTurned, NoAction, UnknownAt, IsIndex, Matched, Gets, Unmatched, IsCrossing}
+use Rattle.desk.specs.Terms.{FaultlessTable, IsHeader, IsTable, NoneFits, Wins, ListsPairs, IsOrder, NoneTurned, NoAction, UnknownAt, IsIndex, Matched, Gets, Unmatched, IsCrossing}
 
 pub record Demand1 : Type 0 where
   -- ---- "Whatever bytes come in, the desk ends, stays inside the memory that it was lent and answers by name."
@@ -82,8 +84,8 @@ pub record Demand1 : Type 0 where
   pub unmatched-no-action : {table area header : List ℕ} {r : Looked} {action : Action} → IsTable table → IsIndex table area → IsHeader header
       → Looks table area header r → NoneFits table header → Gets r action → ⊥
   -- ---- "Every refusal has one exact reason"
-  -- A table is accepted when it is in order, and is refused otherwise, by the same refusal in every call:
-  pub accepted-exact : (table : List ℕ) → Accepted table ↔ TableInOrder table
+  -- A table is accepted exactly when it is faultless, and is refused otherwise, by the same refusal in every call:
+  pub accepted-exact : (table : List ℕ) → Accepted table ↔ FaultlessTable table
   pub accepted-or-refused : (table : List ℕ) → Accepted table ⊎ ((why : Refusal) × (said why ≡ verdict table))
   pub build-by-table : {table area after : List ℕ} {r : built.Built} {why : Refusal} → Builds table area r after
       → said why ≡ verdict table → r ≡ built.the-variants.Refused why

@@ -44,24 +44,24 @@ abbrev pub SpareZero : List ℕ → Type 0
 SpareZero rule = (k : ℕ) → 20 ≤ k → k < recordSize → getD rule k 0 ≡ 0
 
 -- a rule at which none of 3 to 6 is given
-pub record RuleInOrder (rule : List ℕ) : Type 0 where
+pub record FaultlessRule (rule : List ℕ) : Type 0 where
   pub lengths : LengthsFit rule
   pub rest : RestZero rule
   pub action : NoAction rule → ⊥
   pub spare : SpareZero rule
 
 -- a table at which none of 1 to 6 is given
-pub record TableInOrder (table : List ℕ) : Type 0 where
+pub record FaultlessTable (table : List ℕ) : Type 0 where
   pub whole : length table % recordSize ≡ 0
   pub few : ruleCount table ≤ mostRules
-  pub rules : (place : ℕ) → place < ruleCount table → RuleInOrder (recordAt table place)
+  pub rules : (place : ℕ) → place < ruleCount table → FaultlessRule (recordAt table place)
 
 -- 5 is given at a place: the lowest with a fault, whose rule passes the tests before it, in a table that neither 1 nor 2 refuses
 pub record UnknownAt (table : List ℕ) (place : ℕ) : Type 0 where
   pub whole : length table % recordSize ≡ 0
   pub few : ruleCount table ≤ mostRules
   pub inside : place < ruleCount table
-  pub lower : (earlier : ℕ) → earlier < place → RuleInOrder (recordAt table earlier)
+  pub lower : (earlier : ℕ) → earlier < place → FaultlessRule (recordAt table earlier)
   pub lengths : LengthsFit (recordAt table place)
   pub rest : RestZero (recordAt table place)
   pub unknown : NoAction (recordAt table place)

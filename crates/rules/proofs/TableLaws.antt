@@ -1,7 +1,6 @@
 -- Laws of the verdict: what is said of one rule from its tests, one rule more, and what an accepted table is.
 -- Assumes nothing.
 use mathlib.Core.Path.{_≡_, refl, sym, ap, _∙_}
-use mathlib.Core.Logic.{_⊎_, inl, inr}
 use mathlib.Core.Bool.{Bool, true, false, not, cond, _&&_, true≢false}
 use mathlib.Core.List.{List, [], _∷_, head-eq-of-cons-eq}
 use mathlib.Core.Option.{Option, none, some}
@@ -178,23 +177,3 @@ sound-accepted table s =
     let clean : Never (faulty table) (ruleCount table) = λ p h. unfold faulty in ap not (eq-eqb (fault (recordAt table p)) 0 (s .faultless p h)) in
     rw (eq-eqb (length table % recordSize) 0 (s .whole), le-ltb mostRules (ruleCount table) (s .few))
     (ap (placeSaid table) (lowest-none (faulty table) (ruleCount table) clean))
-
--- a verdict is done, or a number above 0
-pub verdict-either : (table : List ℕ) → Accepted table ⊎ ((n : ℕ) × (vs : List ℕ) × (verdict table ≡ suc n ∷ vs))
-unfolding verdict rulesSaid placeSaid ruleSaid
-verdict-either table =
-    go (eqb (length table % recordSize) 0) (ltb mostRules (ruleCount table)) (lowest (faulty table) (ruleCount table)) (lowest-told (faulty table) (ruleCount table))
-  where
-    above : (n : ℕ) (vs : List ℕ) → eqb n 0 ≡ false → (m : ℕ) × (ws : List ℕ) × (n ∷ vs ≡ suc m ∷ ws)
-    above zero vs e = absurd (eqb-false 0 0 e refl)
-    above (suc n) vs e = (n, vs, refl)
-
-    go : (w m : Bool) (o : Option ℕ) → Told (faulty table) (ruleCount table) o
-        → (cond (not w) (1 ∷ []) (cond m (2 ∷ []) (placeSaid table o)) ≡ 0 ∷ [])
-        ⊎ ((n : ℕ) × (vs : List ℕ) × (cond (not w) (1 ∷ []) (cond m (2 ∷ []) (placeSaid table o)) ≡ suc n ∷ vs))
-    go false m o t = inr (0, [], refl)
-    go true true o t = inr (1, [], refl)
-    go true false none t = inl refl
-    go true false (some p) t =
-        let bad = faulty-fault table p (t .passes) in
-        inr (rw bad (above (fault (recordAt table p)) (p ∷ []) bad))

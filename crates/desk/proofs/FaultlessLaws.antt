@@ -1,5 +1,5 @@
--- A rule and a table in order, in the words of the promises: a table is accepted exactly when it is, and 5 is given at a place exactly when
--- the words say so.
+-- A faultless rule and a faultless table, in the words of the promises: a table is accepted exactly when it is faultless, and 5 is given at a
+-- place exactly when the words say so.
 -- Assumes nothing.
 use mathlib.Core.Path.{_≡_, ap}
 use mathlib.Core.Logic.{_↔_}
@@ -15,7 +15,7 @@ use Rattle.rules.proofs.ActionLaws.{unknown}
 use Rattle.rules.proofs.TableLaws.{faultless, length-record, accepted-sound, sound-accepted}
 use Rattle.rules.proofs.FaultLaws.{FaultAt, unknown-exact}
 use Rattle.rules.proofs.TestWords.{long-exact, rest-exact, spare-exact, faultless-fault, fifth-exact}
-use Rattle.desk.specs.Terms.{NoAction, RuleInOrder, TableInOrder, UnknownAt}
+use Rattle.desk.specs.Terms.{NoAction, FaultlessRule, FaultlessTable, UnknownAt}
 
 -- ---- a rule
 
@@ -26,8 +26,8 @@ known-exact rule = (
   λ some. refuted (unknownAction rule) (λ e. some (unknown-exact _ _ .0 (unknown (actionIn rule) e))),
 )
 
-rule-in-order : (rule : List ℕ) → length rule ≡ recordSize → (fault rule ≡ 0) ↔ RuleInOrder rule
-rule-in-order rule whole = (
+faultless-rule : (rule : List ℕ) → length rule ≡ recordSize → (fault rule ≡ 0) ↔ FaultlessRule rule
+faultless-rule rule whole = (
   λ e.
       let f = faultless rule e in
       record {
@@ -50,20 +50,20 @@ rule-in-order rule whole = (
 record-whole : (table : List ℕ) (place : ℕ) → place < ruleCount table → length (recordAt table place) ≡ recordSize
 record-whole table place inside = length-record table place (omega arith)
 
-pub accepted-exact : (table : List ℕ) → Accepted table ↔ TableInOrder table
+pub accepted-exact : (table : List ℕ) → Accepted table ↔ FaultlessTable table
 accepted-exact table = (
   λ ok.
       let s = accepted-sound table ok in
       record {
         whole = s .whole;
         few = s .few;
-        rules = λ place h. rule-in-order (recordAt table place) (record-whole table place h) .0 (s .faultless place h);
+        rules = λ place h. faultless-rule (recordAt table place) (record-whole table place h) .0 (s .faultless place h);
       },
   λ t.
       sound-accepted table (record {
         whole = t .whole;
         few = t .few;
-        faultless = λ place h. rule-in-order (recordAt table place) (record-whole table place h) .1 (t .rules place h);
+        faultless = λ place h. faultless-rule (recordAt table place) (record-whole table place h) .1 (t .rules place h);
       }),
 )
 
@@ -78,7 +78,7 @@ module _ (table : List ℕ) (place : ℕ) where
         whole = f .whole;
         few = f .few;
         inside = f .inside;
-        lower = λ j h. rule-in-order (recordAt table j) (record-whole table j (omega (arith, f .inside))) .0 (f .earlier j h);
+        lower = λ j h. faultless-rule (recordAt table j) (record-whole table j (omega (arith, f .inside))) .0 (f .earlier j h);
         lengths = long-exact (recordAt table place) .0 (tests .0);
         rest = rest-exact (recordAt table place) .0 (tests .1);
         unknown = unknown-exact _ _ .0 (tests .2);
@@ -90,7 +90,7 @@ module _ (table : List ℕ) (place : ℕ) where
     whole = u .whole;
     few = u .few;
     inside = u .inside;
-    earlier = λ j h. rule-in-order (recordAt table j) (record-whole table j (omega (arith, u .inside))) .1 (u .lower j h);
+    earlier = λ j h. faultless-rule (recordAt table j) (record-whole table j (omega (arith, u .inside))) .1 (u .lower j h);
     first = fifth-exact (recordAt table place) .1
         (long-exact (recordAt table place) .1 (u .lengths), rest-exact (recordAt table place) .1 (u .rest), unknown-exact _ _ .1 (u .unknown));
   }
