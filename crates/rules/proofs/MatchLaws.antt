@@ -12,8 +12,8 @@ use Rattle.bits.proofs.TestLaws.{Lowest, Never, Told, lowest-told, lowest-none,
 use Rattle.bits.proofs.NumberLaws.{part-bytes}
 use Rattle.bits.proofs.EachLaws.{tabled, each-places}
 use Rattle.bits.proofs.PlaceLaws.{length-places}
-use Rattle.rules.specs.Rule.{has, Rule, ruleOf}
-use Rattle.rules.specs.Match.{matches, nowhere, ruleAt, noRule, firstMatch, matchesIn}
+use Rattle.rules.specs.Rule.{has, Rule, nowhere, ruleOf}
+use Rattle.rules.specs.Match.{matches, ruleAt, noRule, firstMatch, matchesIn}
 use Rattle.rules.specs.Table.{recordSize, ruleCount, recordAt, rulesOf}
 
 -- ---- the rules of a table

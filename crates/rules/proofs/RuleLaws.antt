@@ -14,10 +14,10 @@ use Rattle.bits.specs.Tests.{any, all}
 use Rattle.bits.proofs.NumberLaws.{number-small}
 use Rattle.bits.proofs.EachLaws.{getD-map, each-maps, all-same}
 use Rattle.rules.specs.Field.{Field, fields, fieldAt, valueIn, lengthIn}
-use Rattle.rules.specs.Rule.{Span, has, spanOf, ruleOf}
+use Rattle.rules.specs.Rule.{Span, has, spanOf, nowhere, spanIn, ruleOf}
 use Rattle.rules.specs.Table.{recordSize, longPrefix, strayBit, fault}
 use Rattle.rules.specs.Header.{headerSize, headerValues}
-use Rattle.rules.specs.Match.{matches, nowhere}
+use Rattle.rules.specs.Match.{matches}
 use Rattle.rules.proofs.FieldLaws.{field-sound, field-none}
 use Rattle.rules.proofs.TableLaws.{faultless}
 use Rattle.rules.proofs.SpanLaws.{has-leads}
@@ -30,6 +30,13 @@ value-small bytes b long f h =
     let s = field-sound f h in
     let small = number-small bytes b (g .start) (g .width / 8) (omega (arith, s .inside)) in
     subst (λ (w : ℕ). numberAt bytes (g .start) (g .width / 8) < 2 ^ w) (s .whole) small
+
+-- ---- one rule
+
+-- the span that a record says in a field
+pub span-in : (bytes : List ℕ) (f : ℕ) → f < 5 → spanIn (ruleOf bytes) f ≡ spanOf (fieldAt f .width) (valueIn bytes (fieldAt f)) (lengthIn bytes (fieldAt f))
+unfolding ruleOf
+span-in bytes f h = getD-map (λ (g : Field). spanOf (g .width) (valueIn bytes g) (lengthIn bytes g)) fields f nowhere (fieldAt 5) h
 
 -- ---- one faultless rule
 
@@ -53,15 +60,14 @@ module _ (bytes : List ℕ) (b : Bytes bytes) (whole : length bytes ≡ recordSi
 
   -- so in each field some path of the rule leads a value's bits exactly when its span has the value
   pub agreement : (x : ℕ) → x < 2 ^ (fieldAt f .width)
-      → any (λ p. leads p (bits (fieldAt f .width) x)) (getD (ruleOf bytes .paths) f []) ≡ has (getD (ruleOf bytes .spans) f nowhere) x
+      → any (λ p. leads p (bits (fieldAt f .width) x)) (getD (ruleOf bytes .paths) f []) ≡ has (spanIn (ruleOf bytes) f) x
   unfolding ruleOf any
   agreement x small =
       let paths = getD-map (λ (g : Field). prefix (g .width) (valueIn bytes g) (lengthIn bytes g) ∷ []) fields f [] (fieldAt 5) h in
-      let spans = getD-map (λ (g : Field). spanOf (g .width) (valueIn bytes g) (lengthIn bytes g)) fields f nowhere (fieldAt 5) h in
       ap (any (λ p. leads p (bits (fieldAt f .width) x))) paths
       ∙ or-false (leads (prefix (fieldAt f .width) (valueIn bytes (fieldAt f)) (lengthIn bytes (fieldAt f))) (bits (fieldAt f .width) x))
       ∙ sym (field-has x small)
-      ∙ ap (λ (s : Span). has s x) (sym spans)
+      ∙ ap (λ (s : Span). has s x) (sym (span-in bytes f h))
 
 -- ---- a faultless rule and a header
 

@@ -8,16 +8,13 @@ use Prim.Native.Nat.{ℕ, _*_, _/_}
 use lib.ListN.{length, getD, take, drop}
 use Rattle.bits.specs.Tests.{any, all, each, upFrom, lowest, count}
 use Rattle.rules.specs.declared.Decoded.the-variants.{Unknown}
-use Rattle.rules.specs.Rule.{Span, has, Rule}
+use Rattle.rules.specs.Rule.{has, Rule, nowhere, spanIn}
 
 -- "A rule matches when each of its five prefixes is a leading part of the header's value": when its span has it (`has-leads`)
 unfoldable pub matches : List ℕ → Rule → Bool
 matches header r = each has (r .spans) header
 
--- a span that has no value, and a rule that matches nothing: what stands past the last
-abbrev pub nowhere : Span
-nowhere = record { low = 1; high = 0 }
-
+-- a rule that matches nothing: what stands past the last
 abbrev pub noRule : Rule
 noRule = record { spans = nowhere ∷ []; paths = []; action = Unknown }
 
@@ -33,7 +30,7 @@ firstMatch rules header = lowest (λ place. matches header (ruleAt rules place))
 
 -- the rule has the header's value in field f
 unfoldable pub matchesIn : List ℕ → ℕ → Rule → Bool
-matchesIn header f r = has (getD (r .spans) f nowhere) (getD header f 0)
+matchesIn header f r = has (spanIn r f) (getD header f 0)
 
 -- the rules of a block of `size` places
 unfoldable pub blockOf : ℕ → List Rule → ℕ → List Rule

@@ -4,6 +4,7 @@ use mathlib.Core.Bool.{Bool, _&&_}
 use mathlib.Core.List.{List, [], _∷_, map}
 use Prim.Native.Nat.{ℕ, _+_, _-_, _^_}
 use lib.Dec.{leb}
+use lib.ListN.{getD}
 use Rattle.bits.specs.Path.{Path, prefix}
 use Rattle.rules.specs.declared.Decoded.{Decoded}
 use Rattle.rules.specs.Field.{Field, fields, valueIn, lengthIn}
@@ -26,6 +27,14 @@ pub record Rule : Type 0 where
   pub spans : List Span
   pub paths : List (List Path)
   pub action : Decoded
+
+-- a span that has no value: what stands past the last
+abbrev pub nowhere : Span
+nowhere = record { low = 1; high = 0 }
+
+-- its span in field f
+abbrev pub spanIn : Rule → ℕ → Span
+spanIn r f = getD (r .spans) f nowhere
 
 -- the rule that a record of 24 bytes says: in each field one prefix
 unfoldable pub ruleOf : List ℕ → Rule
