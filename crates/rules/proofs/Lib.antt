@@ -1,5 +1,6 @@
 -- The laws of this crate's definitions, for its own proofs and for the crates above.
 pub mod FieldLaws
+pub mod FirstFailed
 pub mod TableLaws
 pub mod FaultLaws
 pub mod TestWords

@@ -1,7 +1,7 @@
 -- Laws of the verdict: what is said of one rule from its tests, one rule more, and what an accepted table is.
 -- Assumes nothing.
 use mathlib.Core.Path.{_≡_, refl, sym, ap, _∙_}
-use mathlib.Core.Bool.{Bool, true, false, not, cond, _&&_, true≢false}
+use mathlib.Core.Bool.{Bool, true, false, not, cond, true≢false}
 use mathlib.Core.List.{List, [], _∷_, head-eq-of-cons-eq}
 use mathlib.Core.Option.{Option, none, some}
 use Prim.Native.Nat.{ℕ, zero, suc, _+_, _*_, _%_, _≤_, _<_}
@@ -9,7 +9,7 @@ use native.Mathlib.Numerals.{add-one}
 use native.Mathlib.Omega.{arith}
 use lib.Dec.{eqb, ltb}
 use lib.ListN.{length, take, drop, length-take, length-drop}
-use borrow.Author.Tests.{eqb-true, eqb-false, ltb-false, ltb-true, not-true, not-false, eq-eqb, le-ltb}
+use borrow.Author.Tests.{eqb-true, eqb-false, ltb-false, not-true, not-false, eq-eqb, le-ltb}
 use Rattle.bits.specs.Number.{numberAt}
 use Rattle.bits.specs.Tests.{all, lowest}
 use Rattle.bits.proofs.NumberLaws.{number-nonzero}
@@ -18,8 +18,9 @@ use Rattle.rules.specs.declared.Action.{Action}
 use Rattle.rules.specs.declared.Decoded.the-variants.{Known, Unknown}
 use Rattle.rules.specs.Action.{actionIn, isUnknown}
 use Rattle.rules.specs.Refusal.{firstRefusal}
-use Rattle.rules.specs.Table.{recordSize, mostRules, ruleCount, recordAt, longPrefix, strayBit, unknownAction, spareBytes, Test, ruleTests, firstFailed, fault, ruleSaid, faulty, placeSaid, rulesSaid, verdict, Accepted}
+use Rattle.rules.specs.Table.{recordSize, mostRules, ruleCount, recordAt, longPrefix, strayBit, unknownAction, spareBytes, ruleTests, firstFailed, fault, ruleSaid, faulty, placeSaid, rulesSaid, verdict, Accepted}
 use Rattle.rules.proofs.ActionLaws.{known}
+use Rattle.rules.proofs.FirstFailed.{none-failed}
 
 -- ---- one rule, by its tests in their order
 
@@ -52,21 +53,6 @@ pub record Faultless (bytes : List ℕ) : Type 0 where
   pub clean : strayBit bytes ≡ false
   pub known : unknownAction bytes ≡ false
   pub spare : spareBytes bytes ≡ false
-
-none-failed : (ts : List Test) (bytes : List ℕ) → all (λ (t : Test). ltb 0 (t .number)) ts ≡ true → firstFailed ts bytes ≡ 0
-    → all (λ (t : Test). not (t .fails bytes)) ts ≡ true
-unfolding firstFailed all
-none-failed [] bytes positive e = refl
-none-failed (t ∷ ts) bytes positive e =
-    let above = and-trues (ltb 0 (t .number)) (all (λ (u : Test). ltb 0 (u .number)) ts) positive in
-    go (t .fails bytes) e (above .0) (λ q. none-failed ts bytes (above .1) q)
-  where
-    rest : Bool
-    rest = all (λ (u : Test). not (u .fails bytes)) ts
-
-    go : (failed : Bool) → cond failed (t .number) (firstFailed ts bytes) ≡ 0 → ltb 0 (t .number) ≡ true → (firstFailed ts bytes ≡ 0 → rest ≡ true) → (not failed && rest) ≡ true
-    go true q above more = absurd (omega (arith, ltb-true 0 (t .number) above))
-    go false q above more = more q
 
 pub faultless : (bytes : List ℕ) → fault bytes ≡ 0 → Faultless bytes
 unfolding fault ruleTests all

@@ -10,21 +10,22 @@ use native.Mathlib.Omega.{arith}
 use lib.Dec.{eqb, ltb}
 use lib.ListN.{length, getD, take, drop, length-take, length-drop}
 use lib.Seq.{getD-take, getD-drop}
-use borrow.Author.Tests.{eqb-true, eqb-false, eq-eqb, ltb-false, le-ltb, not-false}
+use borrow.Author.Tests.{eqb-true, eqb-false, eq-eqb, ltb-false, le-ltb, not-true, not-false}
 use Rattle.bits.specs.Path.{bits, stray}
-use Rattle.bits.specs.Tests.{lowest}
-use Rattle.bits.proofs.TestLaws.{none-at, Told, lowest-told}
+use Rattle.bits.specs.Tests.{all, lowest}
+use Rattle.bits.proofs.TestLaws.{and-trues, none-at, Told, lowest-told}
 use Rattle.bits.proofs.EachLaws.{none-any}
 use Rattle.bits.proofs.PathLaws.{length-bits}
-use Rattle.rules.specs.declared.Decoded.{Decoded}
-use Rattle.rules.specs.declared.Decoded.the-variants.{Known, Unknown}
+use Rattle.rules.specs.declared.Decoded.the-variants.{Unknown}
 use Rattle.rules.specs.declared.Refusal.{Refusal}
 use Rattle.rules.specs.declared.Refusal.the-variants.{RaggedTable, TooManyRules, LongPrefix, StrayBit, UnknownAction, SpareBytes}
 use Rattle.rules.specs.Field.{Field, fields, fieldAt, valueIn, lengthIn}
 use Rattle.rules.specs.Action.{actionIn, isUnknown}
 use Rattle.rules.specs.Refusal.{said}
-use Rattle.rules.specs.Table.{recordSize, mostRules, ruleCount, recordAt, longPrefix, strayBit, unknownAction, spareBytes, ruleTests, firstFailed, fault, ruleSaid, faulty, placeSaid, rulesSaid, verdict, Accepted}
+use Rattle.rules.specs.Table.{recordSize, mostRules, ruleCount, recordAt, longPrefix, strayBit, unknownAction, spareBytes, test, ruleTests, firstFailed, fault, ruleSaid, faulty, placeSaid, rulesSaid, verdict, Accepted}
 use Rattle.rules.proofs.FieldLaws.{field-none}
+use Rattle.rules.proofs.ActionLaws.{unknown}
+use Rattle.rules.proofs.FirstFailed.{first-failed}
 use Rattle.rules.proofs.TableLaws.{Faultless, faulty-fault}
 
 -- ---- 3, 4 and 6
@@ -89,20 +90,17 @@ faultless-fault bytes f = rw (f .short, f .clean, f .known, f .spare)
 
 -- 5: the tests before it pass, and the action is not known
 pub fifth-exact : (bytes : List ℕ) → (fault bytes ≡ 5) ↔ ((longPrefix bytes ≡ false) × (strayBit bytes ≡ false) × (actionIn bytes ≡ Unknown))
-unfolding fault firstFailed ruleTests unknownAction isUnknown
-fifth-exact bytes = (
-  go (longPrefix bytes) refl (strayBit bytes) refl (actionIn bytes) refl (spareBytes bytes),
-  λ t. rw (t .0, t .1, t .2),
-)
-  where
-    go : (long : Bool) → longPrefix bytes ≡ long → (stray : Bool) → strayBit bytes ≡ stray → (d : Decoded) → actionIn bytes ≡ d → (spare : Bool)
-        → _≡_ {A = ℕ} (cond long 3 (cond stray 4 (cond (isUnknown d) 5 (cond spare 6 0)))) 5
-        → (longPrefix bytes ≡ false) × (strayBit bytes ≡ false) × (actionIn bytes ≡ Unknown)
-    go true a stray b d c spare q = absurd (omega arith)
-    go false a true b d c spare q = absurd (omega arith)
-    go false a false b Unknown c spare q = (a, b, c)
-    go false a false b (Known x) c true q = unfold isUnknown in absurd (omega (arith, q))
-    go false a false b (Known x) c false q = unfold isUnknown in absurd (omega (arith, q))
+unfolding fault ruleTests unknownAction isUnknown all
+fifth-exact bytes =
+    let exact =
+    first-failed 5 (omega arith) bytes (test 5 unknownAction) (test 6 spareBytes ∷ []) refl refl (test 3 longPrefix ∷ test 4 strayBit ∷ []) refl
+    in (
+      λ e.
+          let x = exact .0 e in
+          let a = and-trues _ _ (x .0) in
+          (not-true _ (a .0), not-true _ (and-trues _ _ (a .1) .0), unknown (actionIn bytes) (x .1)),
+      λ t. exact .1 (rw (t .0, t .1), ap isUnknown (t .2)),
+    )
 
 -- ---- the refusal that a table gets
 

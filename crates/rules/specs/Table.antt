@@ -55,7 +55,7 @@ pub record Test : Type 0 where
   pub number : ℕ
   pub fails : List ℕ → Bool
 
-abbrev test : ℕ → (List ℕ → Bool) → Test
+abbrev pub test : ℕ → (List ℕ → Bool) → Test
 test n f = record { number = n; fails = f }
 
 -- "within a rule 3 to 6 are tried in that order"
