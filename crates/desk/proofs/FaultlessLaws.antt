@@ -1,5 +1,5 @@
--- A faultless rule and a faultless table, in the words of the promises: a table is accepted exactly when it is faultless, and 5 is given at a
--- place exactly when the words say so.
+-- A faultless rule and a faultless table, in the words of the promises: a table is accepted exactly when it is faultless, and a
+-- fault is given at a place exactly when the words say so.
 -- Assumes nothing.
 use mathlib.Core.Path.{_≡_, ap}
 use mathlib.Core.Logic.{_↔_}
@@ -15,7 +15,7 @@ use Rattle.rules.proofs.ActionLaws.{unknown}
 use Rattle.rules.proofs.TableLaws.{faultless, length-record, accepted-sound, sound-accepted}
 use Rattle.rules.proofs.FaultLaws.{FaultAt, unknown-exact}
 use Rattle.rules.proofs.TestWords.{long-exact, rest-exact, spare-exact, faultless-fault, fifth-exact}
-use Rattle.desk.specs.Terms.{NoAction, FaultlessRule, FaultlessTable, UnknownAt}
+use Rattle.desk.specs.Terms.{NoAction, FaultlessRule, FaultlessTable, FirstAt, Unknown}
 
 -- ---- a rule
 
@@ -67,30 +67,38 @@ accepted-exact table = (
       }),
 )
 
--- ---- 5 at a place
+-- ---- the fault at a place
 
-module _ (table : List ℕ) (place : ℕ) where
-  pub fault-unknown : FaultAt table 5 place → UnknownAt table place
-  unfolding actionIn
-  fault-unknown f =
-      let tests = fifth-exact (recordAt table place) .0 (f .first) in
-      record {
-        whole = f .whole;
-        few = f .few;
-        inside = f .inside;
-        lower = λ j h. faultless-rule (recordAt table j) (record-whole table j (omega (arith, f .inside))) .0 (f .earlier j h);
-        lengths = long-exact (recordAt table place) .0 (tests .0);
-        rest = rest-exact (recordAt table place) .0 (tests .1);
-        unknown = unknown-exact _ _ .0 (tests .2);
-      }
+-- n is the number of a fault: what `fault` gives a whole record exactly when that fault is its first
+abbrev pub Numbers : ℕ → (List ℕ → Type 0) → Type 0
+Numbers n Fault = (rule : List ℕ) → length rule ≡ recordSize → (fault rule ≡ n) ↔ Fault rule
 
-  pub unknown-fault : UnknownAt table place → FaultAt table 5 place
-  unfolding actionIn
-  unknown-fault u = record {
-    whole = u .whole;
-    few = u .few;
-    inside = u .inside;
-    earlier = λ j h. faultless-rule (recordAt table j) (record-whole table j (omega (arith, u .inside))) .1 (u .lower j h);
-    first = fifth-exact (recordAt table place) .1
-        (long-exact (recordAt table place) .1 (u .lengths), rest-exact (recordAt table place) .1 (u .rest), unknown-exact _ _ .1 (u .unknown));
-  }
+module _ {Fault : List ℕ → Type 0} {n : ℕ} (exact : Numbers n Fault) (table : List ℕ) (place : ℕ) where
+  pub first-at : FaultAt table n place ↔ FirstAt Fault table place
+  first-at = (
+    λ f. record {
+      whole = f .whole;
+      few = f .few;
+      inside = f .inside;
+      lower = λ j h. faultless-rule (recordAt table j) (record-whole table j (omega (arith, f .inside))) .0 (f .earlier j h);
+      first = exact (recordAt table place) (record-whole table place (f .inside)) .0 (f .first);
+    },
+    λ f. record {
+      whole = f .whole;
+      few = f .few;
+      inside = f .inside;
+      earlier = λ j h. faultless-rule (recordAt table j) (record-whole table j (omega (arith, f .inside))) .1 (f .lower j h);
+      first = exact (recordAt table place) (record-whole table place (f .inside)) .1 (f .first);
+    },
+  )
+
+-- ---- the faults by their numbers
+
+pub unknown-numbered : Numbers 5 Unknown
+unfolding actionIn
+unknown-numbered rule whole = (
+  λ e.
+      let t = fifth-exact rule .0 e in
+      record { lengths = long-exact rule .0 (t .0); rest = rest-exact rule .0 (t .1); no-action = unknown-exact _ _ .0 (t .2) },
+  λ u. fifth-exact rule .1 (long-exact rule .1 (u .lengths), rest-exact rule .1 (u .rest), unknown-exact _ _ .1 (u .no-action)),
+)

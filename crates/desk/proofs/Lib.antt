@@ -9,6 +9,7 @@ pub mod FaultlessLaws
 pub mod SaidNumbers
 pub mod Reasons
 pub mod LookReasons
+pub mod RuleRefusals
 pub mod Demand1
 pub mod Demand2
 pub mod FalseBlocks

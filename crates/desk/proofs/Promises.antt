@@ -7,6 +7,7 @@ use Rattle.desk.proofs.BuildLaws.{built-beyond}
 use Rattle.desk.proofs.FaultlessLaws.{accepted-exact}
 use Rattle.desk.proofs.Reasons as reasons
 use Rattle.desk.proofs.LookReasons as looking
+use Rattle.desk.proofs.RuleRefusals as rule
 use Rattle.desk.proofs.Demand1 as one
 use Rattle.desk.proofs.Demand2 as two
 use Rattle.desk.proofs.FalseBlocks.{lookup-done, counts-one}
@@ -23,9 +24,9 @@ demand-1 = record {
   judge-one = judge-one;
   show-one = show-one;
   show-part = shown-part;
-  build-unknown = one.build-unknown;
-  pairs-unknown = one.pairs-unknown;
-  judge-unknown = one.judge-unknown;
+  build-unknown = λ b place. rule.build-unknown place b;
+  pairs-unknown = λ p place. rule.pairs-unknown place p;
+  judge-unknown = λ j place. rule.judge-unknown place j;
   lookup-unknown = one.lookup-unknown;
   lookup-unknown-there = one.lookup-unknown-there;
   unknown-not-built = one.unknown-not-built;

@@ -56,15 +56,22 @@ pub record FaultlessTable (table : List ℕ) : Type 0 where
   pub few : ruleCount table ≤ mostRules
   pub rules : (place : ℕ) → place < ruleCount table → FaultlessRule (recordAt table place)
 
--- 5 is given at a place: the lowest with a fault, whose rule passes the tests before it, in a table that neither 1 nor 2 refuses
-pub record UnknownAt (table : List ℕ) (place : ℕ) : Type 0 where
+-- a fault is given at a place: the lowest whose rule has one, in a table that neither 1 nor 2 refuses
+pub record FirstAt (Fault : List ℕ → Type 0) (table : List ℕ) (place : ℕ) : Type 0 where
   pub whole : length table % recordSize ≡ 0
   pub few : ruleCount table ≤ mostRules
   pub inside : place < ruleCount table
   pub lower : (earlier : ℕ) → earlier < place → FaultlessRule (recordAt table earlier)
-  pub lengths : LengthsFit (recordAt table place)
-  pub rest : RestZero (recordAt table place)
-  pub unknown : NoAction (recordAt table place)
+  pub first : Fault (recordAt table place)
+
+-- 5: the rule passes the tests before it
+pub record Unknown (rule : List ℕ) : Type 0 where
+  pub lengths : LengthsFit rule
+  pub rest : RestZero rule
+  pub no-action : NoAction rule
+
+abbrev pub UnknownAt : List ℕ → ℕ → Type 0
+UnknownAt = FirstAt Unknown
 
 -- ---- headers, and rules that match them
 
