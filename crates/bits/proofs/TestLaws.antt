@@ -81,6 +81,13 @@ none-at test [] d k e h = absurd (omega arith)
 none-at test (x ∷ l) d zero e h = or-falses (test x) (any test l) e .0
 none-at test (x ∷ l) d (suc k) e h = none-at test l d k (or-falses (test x) (any test l) e .1) (le-of-suc-le-suc h)
 
+-- where every element passes, one passes at each place
+pub all-at : {A : Type 0} (test : A → Bool) (l : List A) (d : A) (k : ℕ) → all test l ≡ true → k < length l → test (getD l k d) ≡ true
+unfolding all
+all-at test [] d k e h = absurd (omega arith)
+all-at test (x ∷ l) d zero e h = and-trues (test x) (all test l) e .0
+all-at test (x ∷ l) d (suc k) e h = all-at test l d k (and-trues (test x) (all test l) e .1) (le-of-suc-le-suc h)
+
 -- ---- the lowest place that passes
 
 module _ (test : ℕ → Bool) where
