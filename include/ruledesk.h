@@ -13,13 +13,15 @@
  *     bytes 18, 19          action kind, feed: kind 0 holds, with feed 0; kind 1 delivers to the feed
  *     bytes 20-23           zero
  *
- * Bits after a prefix are zero. A packet header is RULEDESK_HEADER_BYTES: the five values, in the same order and widths.
+ * Bits after a prefix are zero. A rule with a port length above 0 is for protocol 6 exactly or for protocol 17 exactly: headers of
+ * protocols without ports carry zeros there. A packet header is RULEDESK_HEADER_BYTES: the five values, in the same order and widths.
  *
  * What a caller owes: each pointer is valid for its length, which counts elements and not bytes, and is aligned for its type. It is
  * not NULL, even where the length is 0: any array of one's own will do then. What a call writes overlaps nothing else
  * that it is given. Nothing more: no call has any other precondition, whatever the bytes, the words, the order or the place are.
  *
- * Every number but 0 leaves all lent memory unchanged.
+ * Every number but 0 leaves all lent memory unchanged. A table's refusals are 1, then 2, then the fault of the lowest place that has
+ * one: of its rule's 3, 4, 5, 6 and 14 the first, in that order.
  */
 #ifndef RULEDESK_H
 #define RULEDESK_H
@@ -54,7 +56,8 @@ enum {
     RULEDESK_SHORT_LIST = 10,     /* the list is shorter than twice the number of pairs: nothing */
     RULEDESK_NOT_AN_ORDER = 11,   /* the order's length is not the rule count, or an entry is repeated or too large: nothing */
     RULEDESK_SHORT_OUTPUT = 12,   /* the output is shorter than the table: nothing */
-    RULEDESK_NOT_ALLOWED = 13     /* the move is not allowed: lower place, higher place, the 13 bytes of a header */
+    RULEDESK_NOT_ALLOWED = 13,    /* the move is not allowed: lower place, higher place, the 13 bytes of a header */
+    RULEDESK_STRAY_PORT = 14      /* a port length above 0, and a protocol that is not exactly 6 or exactly 17: place */
 };
 
 /* The kinds of an action. */
@@ -78,7 +81,7 @@ typedef struct {
 
 /*
  * Writes the index of the table to the area; its further words keep their values.
- * Done carries the number of words that the index takes. Refusals: 1, 2, then 3 to 6 of the lowest faulty place, then 7.
+ * Done carries the number of words that the index takes. Refusals: the table's, then 7.
  */
 ruledesk_answer ruledesk_build(const uint8_t *table, size_t table_length, uint32_t *area, size_t area_length);
 
@@ -94,14 +97,14 @@ ruledesk_answer ruledesk_lookup(const uint8_t *table, size_t table_length, const
 /*
  * Lists the pairs of rules that share a header while neither covers the other: two places for each, the lower first, sorted by the
  * lower and then the higher; later entries keep their values.
- * Done carries the number of pairs. Refusals: 1, 2, then 3 to 6 of the lowest faulty place, then 10.
+ * Done carries the number of pairs. Refusals: the table's, then 10.
  */
 ruledesk_answer ruledesk_pairs(const uint8_t *table, size_t table_length, uint16_t *list, size_t list_length);
 
 /*
  * Whether the rules may be put in another order, given as their old places in the new order; if they may, writes the
  * moved table to the output, whose further bytes stay.
- * Done carries nothing. Refusals: 1, 2, then 3 to 6 of the lowest faulty place, then 11, 12, 13. 13 names the first pair, by old places,
+ * Done carries nothing. Refusals: the table's, then 11, 12, 13. 13 names the first pair, by old places,
  * that would change order although it shares a header and differs in action, and the lowest header that it shares.
  */
 ruledesk_answer ruledesk_judge(const uint8_t *table, size_t table_length, const uint16_t *order, size_t order_length,

@@ -14,7 +14,11 @@
 //! | 18, 19 | action kind, feed: kind 0 holds, with feed 0; kind 1 delivers to the feed |
 //! | 20-23 | zero |
 //!
-//! Bits after a prefix are zero. A packet header is [`HEADER_BYTES`]: the five values, in the same order and widths.
+//! Bits after a prefix are zero. A rule with a port length above 0 is for protocol 6 exactly or for protocol 17 exactly: headers of
+//! protocols without ports carry zeros there. A packet header is [`HEADER_BYTES`]: the five values, in the same order and widths.
+//!
+//! A table's refusals are 1, then 2, then the fault of the lowest place that has one: of its rule's 3, 4, 5, 6 and 14 the first, in
+//! that order.
 //!
 //! ```
 //! // One rule: everything from 10.0.0.0/8 is delivered to feed 7.
@@ -99,7 +103,7 @@ pub struct Found {
 ///
 /// # Errors
 ///
-/// The numbers 1, 2, then 3 to 6 of the lowest faulty place, then 7.
+/// The refusals of a [table](crate), then 7.
 pub fn build(table: &[u8], area: &mut [u32]) -> Result<usize, Refusal> {
     let values = refusal::done(foreign::build(table, area))?;
     Ok(values[0] as usize)
@@ -129,7 +133,7 @@ pub fn lookup(table: &[u8], area: &[u32], header: &[u8]) -> Result<Found, Refusa
 ///
 /// # Errors
 ///
-/// The numbers 1, 2, then 3 to 6 of the lowest faulty place, then 10.
+/// The refusals of a [table](crate), then 10.
 pub fn pairs(table: &[u8], list: &mut [u16]) -> Result<usize, Refusal> {
     let values = refusal::done(foreign::pairs(table, list))?;
     Ok(values[0] as usize)
@@ -140,7 +144,7 @@ pub fn pairs(table: &[u8], list: &mut [u16]) -> Result<usize, Refusal> {
 ///
 /// # Errors
 ///
-/// The numbers 1, 2, then 3 to 6 of the lowest faulty place, then 11, 12, 13.
+/// The refusals of a [table](crate), then 11, 12, 13.
 pub fn judge(table: &[u8], order: &[u16], output: &mut [u8]) -> Result<(), Refusal> {
     refusal::done(foreign::judge(table, order, output))?;
     Ok(())

@@ -45,10 +45,12 @@ pub enum Refusal {
     ShortOutput,
     /// 13: the move is not allowed, since these rules share a header and differ in action.
     NotAllowed(Crossing),
+    /// 14: the rule at this place has a port length above 0, and its protocol is not exactly 6 or exactly 17.
+    StrayPort(usize),
 }
 
 impl Refusal {
-    /// The refusal's number, 1 to 13.
+    /// The refusal's number, 1 to 14.
     pub fn number(&self) -> u32 {
         match self {
             Refusal::RaggedTable => 1,
@@ -64,16 +66,18 @@ impl Refusal {
             Refusal::NotAnOrder => 11,
             Refusal::ShortOutput => 12,
             Refusal::NotAllowed(_) => 13,
+            Refusal::StrayPort(_) => 14,
         }
     }
 
-    /// The place that 3 to 6 carry.
+    /// The place of the rule that is refused, which 3 to 6 and 14 carry.
     pub fn place(&self) -> Option<usize> {
         match *self {
             Refusal::LongPrefix(place)
             | Refusal::StrayBit(place)
             | Refusal::UnknownAction(place)
-            | Refusal::SpareBytes(place) => Some(place),
+            | Refusal::SpareBytes(place)
+            | Refusal::StrayPort(place) => Some(place),
             _ => None,
         }
     }
@@ -94,7 +98,8 @@ impl Refusal {
             11 => Refusal::NotAnOrder,
             12 => Refusal::ShortOutput,
             13 => Refusal::NotAllowed(Crossing::from_values(values)),
-            _ => unreachable!("the desk's numbers end at 13"),
+            14 => Refusal::StrayPort(place),
+            _ => unreachable!("the desk's numbers end at 14"),
         }
     }
 }

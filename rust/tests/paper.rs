@@ -145,7 +145,16 @@ fn k11_ports_without_a_port_protocol() {
     table[12] = 1;
     table[16] = 16;
     table[17] = 8;
-    assert!(build(&table, &mut [0; ruledesk::enough_words(1)]).is_ok());
+    let mut area = [7; ruledesk::enough_words(1)];
+    let refusal = build(&table, &mut area).unwrap_err();
+    assert_eq!(refusal, Refusal::StrayPort(0));
+    assert_eq!((refusal.number(), refusal.place()), (14, Some(0)));
+    assert_eq!(refusal.to_string(), "refused 14 at 0");
+    assert_eq!(area, [7; ruledesk::enough_words(1)]);
+    for protocol in [6, 17] {
+        table[12] = protocol;
+        assert!(build(&table, &mut area).is_ok());
+    }
 }
 
 #[test]
@@ -184,8 +193,9 @@ fn refusals_of_a_table() {
         (changed(2, 3, 1), Refusal::StrayBit(2)),
         (changed(1, 18, 0), Refusal::UnknownAction(1)),
         (changed(5, 23, 1), Refusal::SpareBytes(5)),
+        (changed(3, 15, 1), Refusal::StrayPort(3)),
     ];
-    for (number, (table, refusal)) in (1..).zip(cases) {
+    for (number, (table, refusal)) in (1..=6).chain([14]).zip(cases) {
         let mut area = [7; 400];
         let mut list = [7; 30];
         let mut output = [7; 6200];

@@ -9,13 +9,15 @@ use Prim.Native.Nat.{ℕ, _<_}
 use native.Mathlib.Omega.{arith}
 use lib.ListN.{length}
 use Rattle.bits.proofs.TestLaws.{clash, refuted}
+use Rattle.rules.specs.Field.{protocol}
 use Rattle.rules.specs.Action.{actionIn, isUnknown}
 use Rattle.rules.specs.Table.{recordSize, ruleCount, recordAt, unknownAction, fault, Accepted}
 use Rattle.rules.proofs.ActionLaws.{unknown}
 use Rattle.rules.proofs.TableLaws.{faultless, length-record, accepted-sound, sound-accepted}
 use Rattle.rules.proofs.FaultLaws.{FaultAt, unknown-exact}
-use Rattle.rules.proofs.TestWords.{long-exact, rest-exact, spare-exact, faultless-fault, fifth-exact}
-use Rattle.desk.specs.Terms.{NoAction, FaultlessRule, FaultlessTable, FirstAt, Unknown}
+use Rattle.rules.proofs.TestWords.{long-exact, rest-exact, spare-exact, faultless-fault, fifth-exact, fourteenth-exact}
+use Rattle.rules.proofs.PortLaws.{port-refused, port-passed}
+use Rattle.desk.specs.Terms.{NoAction, FaultlessRule, FaultlessTable, FirstAt, UnknownFault, PortFault}
 
 -- ---- a rule
 
@@ -35,6 +37,7 @@ faultless-rule rule whole = (
         rest = rest-exact rule .0 (f .clean);
         action = known-exact rule .0 (f .known);
         spare = spare-exact rule whole .0 (f .spare);
+        ports = port-passed rule (long-exact rule .0 (f .short) protocol (omega arith)) .0 (f .carried);
       },
   λ r.
       faultless-fault rule (record {
@@ -42,6 +45,7 @@ faultless-rule rule whole = (
         clean = rest-exact rule .1 (r .rest);
         known = known-exact rule .1 (r .action);
         spare = spare-exact rule whole .1 (r .spare);
+        carried = port-passed rule (r .lengths protocol (omega arith)) .1 (r .ports);
       }),
 )
 
@@ -94,11 +98,35 @@ module _ {Fault : List ℕ → Type 0} {n : ℕ} (exact : Numbers n Fault) (tabl
 
 -- ---- the faults by their numbers
 
-pub unknown-numbered : Numbers 5 Unknown
+pub unknown-numbered : Numbers 5 UnknownFault
 unfolding actionIn
 unknown-numbered rule whole = (
   λ e.
       let t = fifth-exact rule .0 e in
       record { lengths = long-exact rule .0 (t .0); rest = rest-exact rule .0 (t .1); no-action = unknown-exact _ _ .0 (t .2) },
   λ u. fifth-exact rule .1 (long-exact rule .1 (u .lengths), rest-exact rule .1 (u .rest), unknown-exact _ _ .1 (u .no-action)),
+)
+
+pub port-numbered : Numbers 14 PortFault
+port-numbered rule whole = (
+  λ e.
+      let t = fourteenth-exact rule .0 e in
+      let lengths = long-exact rule .0 (t .0) in
+      let port = port-refused rule (lengths protocol (omega arith)) .0 (t .4) in
+      record {
+        lengths = lengths;
+        rest = rest-exact rule .0 (t .1);
+        action = known-exact rule .0 (t .2);
+        spare = spare-exact rule whole .0 (t .3);
+        asks-port = port .0;
+        no-ports = port .1;
+      },
+  λ p.
+      fourteenth-exact rule .1 (
+        long-exact rule .1 (p .lengths),
+        rest-exact rule .1 (p .rest),
+        known-exact rule .1 (p .action),
+        spare-exact rule whole .1 (p .spare),
+        port-refused rule (p .lengths protocol (omega arith)) .1 (p .asks-port, p .no-ports),
+      ),
 )

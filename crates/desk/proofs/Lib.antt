@@ -12,6 +12,7 @@ pub mod LookReasons
 pub mod RuleRefusals
 pub mod Demand1
 pub mod Demand2
+pub mod PortAnswers
 pub mod FalseBlocks
 pub mod ListedPairs
 pub mod Demand3

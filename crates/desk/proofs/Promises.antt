@@ -5,6 +5,7 @@ use Rattle.desk.proofs.Determined.{build-one, lookup-one, pairs-one, ju
 use Rattle.rules.proofs.TestWords.{accepted-or-refused}
 use Rattle.desk.proofs.BuildLaws.{built-beyond}
 use Rattle.desk.proofs.FaultlessLaws.{accepted-exact}
+use Rattle.desk.proofs.PortAnswers.{lookup-no-port}
 use Rattle.desk.proofs.Reasons as reasons
 use Rattle.desk.proofs.LookReasons as looking
 use Rattle.desk.proofs.RuleRefusals as rule
@@ -41,6 +42,10 @@ demand-1 = record {
   build-by-table = reasons.build-by-table;
   pairs-by-table = reasons.pairs-by-table;
   judge-by-table = reasons.judge-by-table;
+  build-stray-port = λ b place. rule.build-stray-port place b;
+  pairs-stray-port = λ p place. rule.pairs-stray-port place p;
+  judge-stray-port = λ j place. rule.judge-stray-port place j;
+  lookup-no-port = lookup-no-port;
   build-short = reasons.build-short;
   pairs-short = reasons.pairs-short;
   judge-no-order = reasons.judge-no-order;

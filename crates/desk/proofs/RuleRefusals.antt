@@ -7,7 +7,7 @@ use Prim.Native.Nat.{ℕ, zero, suc}
 use native.Mathlib.Omega.{arith}
 use lib.ListN.{getD}
 use Rattle.rules.specs.declared.Refusal.{Refusal}
-use Rattle.rules.specs.declared.Refusal.the-variants.{UnknownAction}
+use Rattle.rules.specs.declared.Refusal.the-variants.{UnknownAction, StrayPort}
 use Rattle.rules.specs.Refusal.{said, firstRefusal}
 use Rattle.rules.specs.Table.{rulesOf, verdict}
 use Rattle.rules.proofs.FaultLaws.{verdict-fault}
@@ -19,8 +19,8 @@ use Rattle.desk.specs.Lent.{roomSaid}
 use Rattle.desk.specs.BuildCall.{builtSaid, wordsNeeded, buildSaid, Builds}
 use Rattle.desk.specs.PairsCall.{pairedSaid, pairCount, pairsSaid, Pairs}
 use Rattle.desk.specs.JudgeCall.{judgedSaid, orderSaid, outputSaid, crossingSaid, judgeSaid, Judges}
-use Rattle.desk.specs.Terms.{FirstAt, UnknownAt}
-use Rattle.desk.proofs.FaultlessLaws.{Numbers, first-at, unknown-numbered}
+use Rattle.desk.specs.Terms.{FirstAt, UnknownAt, StrayPortAt}
+use Rattle.desk.proofs.FaultlessLaws.{Numbers, first-at, unknown-numbered, port-numbered}
 use Rattle.desk.proofs.SaidNumbers.{NotSaid, first-never, room-never, order-never, output-never, crossing-never}
 use Rattle.desk.proofs.BuildLaws.{refused-builds}
 use Rattle.desk.proofs.PairsLaws.{refused-pairs}
@@ -95,3 +95,23 @@ module _ (place : ℕ) where
       → (r ≡ judged.the-variants.Refused (UnknownAction place)) ↔ UnknownAt table place
   judge-unknown =
       judge-fault unknown-numbered place (UnknownAction place) unknown-said (λ q. omega (arith, q)) (λ q. omega (arith, q)) (λ q. omega (arith, q))
+
+-- ---- refusal 14
+
+module _ (place : ℕ) where
+  port-said : said (StrayPort place) ≡ 14 ∷ place ∷ []
+  unfolding said
+  port-said = refl
+
+  pub build-stray-port : {table area after : List ℕ} {r : built.Built} → Builds table area r after
+      → (r ≡ built.the-variants.Refused (StrayPort place)) ↔ StrayPortAt table place
+  build-stray-port = build-fault port-numbered place (StrayPort place) port-said (λ q. omega (arith, q))
+
+  pub pairs-stray-port : {table list after : List ℕ} {r : paired.Paired} → Pairs table list r after
+      → (r ≡ paired.the-variants.Refused (StrayPort place)) ↔ StrayPortAt table place
+  pairs-stray-port = pairs-fault port-numbered place (StrayPort place) port-said (λ q. omega (arith, q))
+
+  pub judge-stray-port : {table order output after : List ℕ} {r : judged.Judged} → Judges table order output r after
+      → (r ≡ judged.the-variants.Refused (StrayPort place)) ↔ StrayPortAt table place
+  judge-stray-port =
+      judge-fault port-numbered place (StrayPort place) port-said (λ q. omega (arith, q)) (λ q. omega (arith, q)) (λ q. omega (arith, q))

@@ -12,7 +12,8 @@ use Rattle.rules.specs.declared.Action.{Action}
 use Rattle.rules.specs.declared.Decoded.the-variants.{Known}
 use Rattle.rules.specs.declared.Crossing.{Crossing}
 use Rattle.rules.specs.declared.Refusal.{Refusal}
-use Rattle.rules.specs.declared.Refusal.the-variants.{RaggedTable, TooManyRules, UnknownAction, ShortArea, NotAHeader, DamagedArea, ShortList, NotAnOrder, ShortOutput, NotAllowed}
+use Rattle.rules.specs.declared.Refusal.the-variants.{RaggedTable, TooManyRules, UnknownAction, ShortArea, NotAHeader, DamagedArea, ShortList, NotAnOrder, ShortOutput, NotAllowed, StrayPort}
+use Rattle.rules.specs.Field.{fieldAt, protocol, valueIn}
 use Rattle.rules.specs.Action.{actionIn}
 use Rattle.rules.specs.Header.{headerSize, headerBytes}
 use Rattle.rules.specs.Refusal.{values, said}
@@ -36,7 +37,7 @@ use Rattle.desk.specs.PairsCall.{pairCount, Pairs}
 use Rattle.desk.specs.JudgeCall.{Judges}
 use Rattle.desk.specs.Show.{Shows}
 use Rattle.desk.specs.FalseBlock.{CountsFalse}
-use Rattle.desk.specs.Terms.{FaultlessTable, IsHeader, IsTable, NoneFits, Wins, ListsPairs, IsOrder, NoneTurned, NoAction, UnknownAt, IsIndex, Matched, Gets, Unmatched, IsCrossing}
+use Rattle.desk.specs.Terms.{AsksPort, FaultlessTable, IsHeader, IsTable, NoneFits, Wins, ListsPairs, IsOrder, NoneTurned, NoAction, UnknownAt, StrayPortAt, IsIndex, Matched, Gets, Unmatched, IsCrossing}
 
 pub record Demand1 : Type 0 where
   -- ---- "Whatever bytes come in, the desk ends, stays inside the memory that it was lent and answers by name."
@@ -93,6 +94,17 @@ pub record Demand1 : Type 0 where
       → said why ≡ verdict table → r ≡ paired.the-variants.Refused why
   pub judge-by-table : {table order output after : List ℕ} {r : judged.Judged} {why : Refusal} → Judges table order output r after
       → said why ≡ verdict table → r ≡ judged.the-variants.Refused why
+  -- Refusal 14 (02, Q-1), "with the place, tried after 6", exactly where that is the table's first fault:
+  pub build-stray-port : {table area after : List ℕ} {r : built.Built} → Builds table area r after
+      → (place : ℕ) → (r ≡ built.the-variants.Refused (StrayPort place)) ↔ StrayPortAt table place
+  pub pairs-stray-port : {table list after : List ℕ} {r : paired.Paired} → Pairs table list r after
+      → (place : ℕ) → (r ≡ paired.the-variants.Refused (StrayPort place)) ↔ StrayPortAt table place
+  pub judge-stray-port : {table order output after : List ℕ} {r : judged.Judged} → Judges table order output r after
+      → (place : ℕ) → (r ≡ judged.the-variants.Refused (StrayPort place)) ↔ StrayPortAt table place
+  -- So that a header of a protocol without ports, which "carries zeros there", never gets a rule that asks for a port:
+  pub lookup-no-port : {table area header : List ℕ} {r : Looked} {place : ℕ} {action : Action} → IsTable table → IsIndex table area → IsHeader header
+      → Looks table area header r → (valueIn header (fieldAt protocol) ≡ 6 → ⊥) → (valueIn header (fieldAt protocol) ≡ 17 → ⊥) → Matched r place action
+      → AsksPort (recordAt table place) → ⊥
   -- An accepted table is refused for want of room or of an order; 13 is demand 3's:
   pub build-short : {table area after : List ℕ} {r : built.Built} → IsTable table → Builds table area r after
       → (r ≡ built.the-variants.Refused ShortArea) ↔ (length area < wordsNeeded table)

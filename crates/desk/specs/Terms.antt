@@ -12,7 +12,7 @@ use Rattle.bits.specs.Path.{Path, bits, prefix, leads}
 use Rattle.bits.specs.Tests.{all, each}
 use Rattle.rules.specs.declared.Action.{Action}
 use Rattle.rules.specs.declared.Decoded.the-variants.{Known}
-use Rattle.rules.specs.Field.{Field, fields, fieldAt, valueIn, lengthIn}
+use Rattle.rules.specs.Field.{Field, fields, fieldAt, sourcePort, destinationPort, protocol, valueIn, lengthIn}
 use Rattle.rules.specs.Action.{actionIn}
 use Rattle.rules.specs.Header.{headerSize, headerValues}
 use Rattle.rules.specs.Table.{recordSize, mostRules, ruleCount, recordAt, Accepted}
@@ -43,14 +43,23 @@ NoAction rule = (1 < getD rule 18 0) ⊎ ((getD rule 18 0 ≡ 0) × (getD rule 1
 abbrev pub SpareZero : List ℕ → Type 0
 SpareZero rule = (k : ℕ) → 20 ≤ k → k < recordSize → getD rule k 0 ≡ 0
 
--- a rule at which none of 3 to 6 is given
+-- "a port length above 0" (02, Q-1)
+abbrev pub AsksPort : List ℕ → Type 0
+AsksPort rule = (0 < lengthIn rule (fieldAt sourcePort)) ⊎ (0 < lengthIn rule (fieldAt destinationPort))
+
+-- "its protocol is exactly 6 or exactly 17 (length 8)" (02, Q-1)
+abbrev pub HasPorts : List ℕ → Type 0
+HasPorts rule = (lengthIn rule (fieldAt protocol) ≡ 8) × ((valueIn rule (fieldAt protocol) ≡ 6) ⊎ (valueIn rule (fieldAt protocol) ≡ 17))
+
+-- a rule that passes each of its tests (`ruleTests`)
 pub record FaultlessRule (rule : List ℕ) : Type 0 where
   pub lengths : LengthsFit rule
   pub rest : RestZero rule
   pub action : NoAction rule → ⊥
   pub spare : SpareZero rule
+  pub ports : AsksPort rule → HasPorts rule
 
--- a table at which none of 1 to 6 is given
+-- a table that is refused neither as 1 or 2 nor for a rule
 pub record FaultlessTable (table : List ℕ) : Type 0 where
   pub whole : length table % recordSize ≡ 0
   pub few : ruleCount table ≤ mostRules
@@ -65,13 +74,25 @@ pub record FirstAt (Fault : List ℕ → Type 0) (table : List ℕ) (place : ℕ
   pub first : Fault (recordAt table place)
 
 -- 5: the rule passes the tests before it
-pub record Unknown (rule : List ℕ) : Type 0 where
+pub record UnknownFault (rule : List ℕ) : Type 0 where
   pub lengths : LengthsFit rule
   pub rest : RestZero rule
   pub no-action : NoAction rule
 
 abbrev pub UnknownAt : List ℕ → ℕ → Type 0
-UnknownAt = FirstAt Unknown
+UnknownAt = FirstAt UnknownFault
+
+-- 14: the rule passes the tests before it
+pub record PortFault (rule : List ℕ) : Type 0 where
+  pub lengths : LengthsFit rule
+  pub rest : RestZero rule
+  pub action : NoAction rule → ⊥
+  pub spare : SpareZero rule
+  pub asks-port : AsksPort rule
+  pub no-ports : HasPorts rule → ⊥
+
+abbrev pub StrayPortAt : List ℕ → ℕ → Type 0
+StrayPortAt = FirstAt PortFault
 
 -- ---- headers, and rules that match them
 
@@ -80,7 +101,7 @@ pub record IsHeader (header : List ℕ) : Type 0 where
   pub bytes : Bytes header
   pub size : length header ≡ headerSize
 
--- an accepted table: bytes at which none of 1 to 6 is given (`accepted-exact`)
+-- an accepted table: bytes without a fault (`accepted-exact`)
 pub record IsTable (table : List ℕ) : Type 0 where
   pub bytes : Bytes table
   pub accepted : Accepted table

@@ -1,4 +1,4 @@
--- 01's worked examples, K1 to K12, as one table: what the definitions give beside what 01 says.
+-- 01's worked examples, K1 to K12, as one table: what the definitions give beside what 01 says, and of K11 what 02 says since Q-1.
 -- Assumes nothing.
 use mathlib.Core.Path.{_≡_}
 use mathlib.Core.List.{List, [], _∷_, _++_, map}
@@ -90,7 +90,7 @@ examples =
     ∷ example 8 (entries (pairsOf (rulesOf sixRules))) (0 ∷ 1 ∷ [])
     ∷ example 9 (judgeSaid sixRules (0 ∷ 1 ∷ 2 ∷ 3 ∷ 5 ∷ 4 ∷ []) sixRules) (0 ∷ [])
     ∷ example 10 (judgeSaid sixRules (1 ∷ 0 ∷ 2 ∷ 3 ∷ 4 ∷ 5 ∷ []) sixRules) (13 ∷ 0 ∷ 1 ∷ 0 ∷ 0 ∷ 0 ∷ 0 ∷ 128 ∷ 0 ∷ 0 ∷ 0 ∷ 0 ∷ 0 ∷ 0 ∷ 0 ∷ 0 ∷ [])
-    ∷ example 11 (verdict portOfIcmp) (0 ∷ [])
+    ∷ example 11 (verdict portOfIcmp) (14 ∷ 0 ∷ [])
     ∷ example 12 (verdict unknownThird) (5 ∷ 3 ∷ [])
     ∷ []
 

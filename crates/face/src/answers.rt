@@ -93,7 +93,7 @@ fn not_allowed(crossing: Crossing) -> Answer
     }
 }
 
-// Every refusal, in the order of its numbers 1 to 13.
+// Every refusal, in the order of its numbers.
 pub fn refused(refusal: Refusal) -> Answer
     ensures { λ r. ⌜ Hands (said refusal) r ⌝ }
 {
@@ -111,6 +111,7 @@ pub fn refused(refusal: Refusal) -> Answer
         Refusal::NotAnOrder => plain(11),
         Refusal::ShortOutput => plain(12),
         Refusal::NotAllowed(crossing) => not_allowed(crossing),
+        Refusal::StrayPort(place) => with_value(14, place),
     }
 }
 

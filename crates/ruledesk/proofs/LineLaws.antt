@@ -8,7 +8,7 @@ use borrow.Author.Tests.{ne-eqb}
 use Rattle.rules.specs.declared.Action.{Action}
 use Rattle.rules.specs.declared.Action.the-variants.{Hold, Deliver}
 use Rattle.rules.specs.declared.Refusal.{Refusal}
-use Rattle.rules.specs.declared.Refusal.the-variants.{RaggedTable, TooManyRules, LongPrefix, StrayBit, UnknownAction, SpareBytes, ShortArea, NotAHeader, DamagedArea, ShortList, NotAnOrder, ShortOutput, NotAllowed}
+use Rattle.rules.specs.declared.Refusal.the-variants.{RaggedTable, TooManyRules, LongPrefix, StrayBit, UnknownAction, SpareBytes, ShortArea, NotAHeader, DamagedArea, ShortList, NotAnOrder, ShortOutput, NotAllowed, StrayPort}
 use Rattle.rules.specs.Refusal.{said, numberOf, placeOf}
 use Rattle.rules.proofs.SaidLaws.{numbered}
 use Rattle.lookup.specs.declared.Outcome.the-variants.{Match}
@@ -38,6 +38,7 @@ refused-told ShortList = refl
 refused-told NotAnOrder = refl
 refused-told ShortOutput = refl
 refused-told (NotAllowed c) = refl
+refused-told (StrayPort place) = refl
 
 answer-other : (n : ℕ) (values : List ℕ) → answerText (suc n ∷ values) ≡ refusedText (suc n ∷ values)
 unfolding answerText

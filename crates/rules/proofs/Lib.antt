@@ -8,6 +8,7 @@ pub mod SaidLaws
 pub mod SpanLaws
 pub mod OverlapLaws
 pub mod RuleLaws
+pub mod PortLaws
 pub mod Determined
 pub mod ActionLaws
 pub mod MatchLaws

@@ -8,7 +8,7 @@ use Rattle.bits.specs.Number.{numberAt, bytesOf}
 use Rattle.bits.proofs.NumberLaws.{number-bytes}
 use Rattle.rules.specs.declared.Header.{Header}
 use Rattle.rules.specs.declared.Refusal.{Refusal}
-use Rattle.rules.specs.declared.Refusal.the-variants.{RaggedTable, TooManyRules, LongPrefix, StrayBit, UnknownAction, SpareBytes, ShortArea, NotAHeader, DamagedArea, ShortList, NotAnOrder, ShortOutput, NotAllowed}
+use Rattle.rules.specs.declared.Refusal.the-variants.{RaggedTable, TooManyRules, LongPrefix, StrayBit, UnknownAction, SpareBytes, ShortArea, NotAHeader, DamagedArea, ShortList, NotAnOrder, ShortOutput, NotAllowed, StrayPort}
 use Rattle.rules.specs.declared.Checked.{Checked}
 use Rattle.rules.specs.declared.Checked.the-variants.{Accepted, Refused}
 use Rattle.rules.specs.declared.Heard as heard
@@ -63,6 +63,7 @@ refusals vs =
     ∷ NotAnOrder
     ∷ ShortOutput
     ∷ NotAllowed (record { lower = p; higher = getD vs 1 0; header = fromBytes (drop 2 vs) })
+    ∷ StrayPort p
     ∷ []
 
 -- from number 1 on
@@ -86,6 +87,7 @@ unsaid-said ShortList = refl
 unsaid-said NotAnOrder = refl
 unsaid-said ShortOutput = refl
 unsaid-said (NotAllowed c) = ap (λ (h : Header). NotAllowed (record { lower = c .lower; higher = c .higher; header = h })) (from-header (c .header))
+unsaid-said (StrayPort p) = refl
 
 pub said-one : (a b : Refusal) → said a ≡ said b → a ≡ b
 said-one a b e = sym (unsaid-said a) ∙ ap unsaid e ∙ unsaid-said b
@@ -108,6 +110,7 @@ numbered ShortList = (9, [], refl)
 numbered NotAnOrder = (10, [], refl)
 numbered ShortOutput = (11, [], refl)
 numbered (NotAllowed c) = (12, _, refl)
+numbered (StrayPort p) = (13, _, refl)
 
 -- so after a refusal nothing more is asked
 pub refused-first : (r : Refusal) (b : List ℕ) → firstRefusal (said r) b ≡ said r

@@ -18,7 +18,7 @@ use Rattle.rules.specs.declared.Action.{Action}
 use Rattle.rules.specs.declared.Decoded.the-variants.{Known, Unknown}
 use Rattle.rules.specs.Action.{actionIn, isUnknown}
 use Rattle.rules.specs.Refusal.{firstRefusal}
-use Rattle.rules.specs.Table.{recordSize, mostRules, ruleCount, recordAt, longPrefix, strayBit, unknownAction, spareBytes, ruleTests, firstFailed, fault, ruleSaid, faulty, placeSaid, rulesSaid, verdict, Accepted}
+use Rattle.rules.specs.Table.{recordSize, mostRules, ruleCount, recordAt, longPrefix, strayBit, unknownAction, spareBytes, strayPort, ruleTests, firstFailed, fault, ruleSaid, faulty, placeSaid, rulesSaid, verdict, Accepted}
 use Rattle.rules.proofs.ActionLaws.{known}
 use Rattle.rules.proofs.FirstFailed.{none-failed}
 
@@ -42,9 +42,13 @@ module _ (place : ℕ) (bytes : List ℕ) where
     unfolding ruleSaid fault firstFailed ruleTests unknownAction isUnknown
     said-spare h = rw (short, clean, known, h)
 
-    pub said-done : spareBytes bytes ≡ false → ruleSaid place bytes ≡ 0 ∷ []
+    pub said-port : spareBytes bytes ≡ false → strayPort bytes ≡ true → ruleSaid place bytes ≡ 14 ∷ place ∷ []
     unfolding ruleSaid fault firstFailed ruleTests unknownAction isUnknown
-    said-done h = rw (short, clean, known, h)
+    said-port h k = rw (short, clean, known, h, k)
+
+    pub said-done : spareBytes bytes ≡ false → strayPort bytes ≡ false → ruleSaid place bytes ≡ 0 ∷ []
+    unfolding ruleSaid fault firstFailed ruleTests unknownAction isUnknown
+    said-done h k = rw (short, clean, known, h, k)
 
 -- ---- a faultless record passes each test
 
@@ -53,6 +57,7 @@ pub record Faultless (bytes : List ℕ) : Type 0 where
   pub clean : strayBit bytes ≡ false
   pub known : unknownAction bytes ≡ false
   pub spare : spareBytes bytes ≡ false
+  pub carried : strayPort bytes ≡ false
 
 pub faultless : (bytes : List ℕ) → fault bytes ≡ 0 → Faultless bytes
 unfolding fault ruleTests all
@@ -61,11 +66,13 @@ faultless bytes e =
     let b = and-trues _ _ (a .1) in
     let d = and-trues _ _ (b .1) in
     let f = and-trues _ _ (d .1) in
+    let g = and-trues _ _ (f .1) in
     record {
       short = not-true _ (a .0);
       clean = not-true _ (b .0);
       known = not-true _ (d .0);
       spare = not-true _ (f .0);
+      carried = not-true _ (g .0);
     }
 
 -- so its action is known

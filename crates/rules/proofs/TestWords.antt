@@ -18,11 +18,11 @@ use Rattle.bits.proofs.EachLaws.{none-any}
 use Rattle.bits.proofs.PathLaws.{length-bits}
 use Rattle.rules.specs.declared.Decoded.the-variants.{Unknown}
 use Rattle.rules.specs.declared.Refusal.{Refusal}
-use Rattle.rules.specs.declared.Refusal.the-variants.{RaggedTable, TooManyRules, LongPrefix, StrayBit, UnknownAction, SpareBytes}
+use Rattle.rules.specs.declared.Refusal.the-variants.{RaggedTable, TooManyRules, LongPrefix, StrayBit, UnknownAction, SpareBytes, StrayPort}
 use Rattle.rules.specs.Field.{Field, fields, fieldAt, valueIn, lengthIn}
 use Rattle.rules.specs.Action.{actionIn, isUnknown}
 use Rattle.rules.specs.Refusal.{said}
-use Rattle.rules.specs.Table.{recordSize, mostRules, ruleCount, recordAt, longPrefix, strayBit, unknownAction, spareBytes, test, ruleTests, firstFailed, fault, ruleSaid, faulty, placeSaid, rulesSaid, verdict, Accepted}
+use Rattle.rules.specs.Table.{recordSize, mostRules, ruleCount, recordAt, longPrefix, strayBit, unknownAction, spareBytes, strayPort, test, ruleTests, firstFailed, fault, ruleSaid, faulty, placeSaid, rulesSaid, verdict, Accepted}
 use Rattle.rules.proofs.FieldLaws.{field-none}
 use Rattle.rules.proofs.ActionLaws.{unknown}
 use Rattle.rules.proofs.FirstFailed.{first-failed}
@@ -86,14 +86,14 @@ spare-exact bytes whole =
 
 pub faultless-fault : (bytes : List ℕ) → Faultless bytes → fault bytes ≡ 0
 unfolding fault firstFailed ruleTests
-faultless-fault bytes f = rw (f .short, f .clean, f .known, f .spare)
+faultless-fault bytes f = rw (f .short, f .clean, f .known, f .spare, f .carried)
 
 -- 5: the tests before it pass, and the action is not known
 pub fifth-exact : (bytes : List ℕ) → (fault bytes ≡ 5) ↔ ((longPrefix bytes ≡ false) × (strayBit bytes ≡ false) × (actionIn bytes ≡ Unknown))
 unfolding fault ruleTests unknownAction isUnknown all
 fifth-exact bytes =
     let exact =
-    first-failed 5 (omega arith) bytes (test 5 unknownAction) (test 6 spareBytes ∷ []) refl refl (test 3 longPrefix ∷ test 4 strayBit ∷ []) refl
+    first-failed 5 (omega arith) bytes (test 5 unknownAction) (test 6 spareBytes ∷ test 14 strayPort ∷ []) refl refl (test 3 longPrefix ∷ test 4 strayBit ∷ []) refl
     in (
       λ e.
           let x = exact .0 e in
@@ -102,20 +102,37 @@ fifth-exact bytes =
       λ t. exact .1 (rw (t .0, t .1), ap isUnknown (t .2)),
     )
 
+-- 14: the tests before it pass, and a port is asked for without a protocol that has ports
+pub fourteenth-exact : (bytes : List ℕ) → (fault bytes ≡ 14)
+    ↔ ((longPrefix bytes ≡ false) × (strayBit bytes ≡ false) × (unknownAction bytes ≡ false) × (spareBytes bytes ≡ false) × (strayPort bytes ≡ true))
+unfolding fault ruleTests all
+fourteenth-exact bytes =
+    let before = test 3 longPrefix ∷ test 4 strayBit ∷ test 5 unknownAction ∷ test 6 spareBytes ∷ [] in
+    let exact = first-failed 14 (omega arith) bytes (test 14 strayPort) [] refl refl before refl in (
+      λ e.
+          let x = exact .0 e in
+          let a = and-trues _ _ (x .0) in
+          let b = and-trues _ _ (a .1) in
+          let d = and-trues _ _ (b .1) in
+          (not-true _ (a .0), not-true _ (b .0), not-true _ (d .0), not-true _ (and-trues _ _ (d .1) .0), x .1),
+      λ t. exact .1 (rw (t .0, t .1, t .2, t .3), t .4),
+    )
+
 -- ---- the refusal that a table gets
 
 rule-refused : (bytes : List ℕ) (place : ℕ) → (fault bytes ≡ 0) ⊎ ((why : Refusal) × (said why ≡ fault bytes ∷ place ∷ []))
 unfolding fault firstFailed ruleTests said
-rule-refused bytes place = go (longPrefix bytes) (strayBit bytes) (unknownAction bytes) (spareBytes bytes)
+rule-refused bytes place = go (longPrefix bytes) (strayBit bytes) (unknownAction bytes) (spareBytes bytes) (strayPort bytes)
   where
-    go : (long stray unknown spare : Bool)
-        → (_≡_ {A = ℕ} (cond long 3 (cond stray 4 (cond unknown 5 (cond spare 6 0)))) 0)
-        ⊎ ((why : Refusal) × (said why ≡ cond long 3 (cond stray 4 (cond unknown 5 (cond spare 6 0))) ∷ place ∷ []))
-    go true stray unknown spare = inr (LongPrefix place, refl)
-    go false true unknown spare = inr (StrayBit place, refl)
-    go false false true spare = inr (UnknownAction place, refl)
-    go false false false true = inr (SpareBytes place, refl)
-    go false false false false = inl refl
+    go : (long stray unknown spare port : Bool)
+        → (_≡_ {A = ℕ} (cond long 3 (cond stray 4 (cond unknown 5 (cond spare 6 (cond port 14 0))))) 0)
+        ⊎ ((why : Refusal) × (said why ≡ cond long 3 (cond stray 4 (cond unknown 5 (cond spare 6 (cond port 14 0)))) ∷ place ∷ []))
+    go true stray unknown spare port = inr (LongPrefix place, refl)
+    go false true unknown spare port = inr (StrayBit place, refl)
+    go false false true spare port = inr (UnknownAction place, refl)
+    go false false false true port = inr (SpareBytes place, refl)
+    go false false false false true = inr (StrayPort place, refl)
+    go false false false false false = inl refl
 
 pub accepted-or-refused : (table : List ℕ) → Accepted table ⊎ ((why : Refusal) × (said why ≡ verdict table))
 unfolding verdict rulesSaid placeSaid ruleSaid said

@@ -24,6 +24,16 @@ fields = field 0 32 13 ∷ field 4 32 14 ∷ field 8 16 15 ∷ field 10 16 16 �
 abbrev pub fieldAt : ℕ → Field
 fieldAt f = getD fields f (field 0 0 0)
 
+-- the two ports and the protocol, by their number among the fields
+abbrev pub sourcePort : ℕ
+sourcePort = 2
+
+abbrev pub destinationPort : ℕ
+destinationPort = 3
+
+abbrev pub protocol : ℕ
+protocol = 4
+
 -- a field's value in a record or a header
 unfoldable pub valueIn : List ℕ → Field → ℕ
 valueIn bytes f = numberAt bytes (f .start) (f .width / 8)

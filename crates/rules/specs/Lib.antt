@@ -5,6 +5,7 @@ pub mod Action
 pub mod Header
 pub mod Refusal
 pub mod Rule
+pub mod Ports
 pub mod Table
 pub mod Match
 pub mod Overlap

@@ -1,4 +1,4 @@
--- What the desk says, in 01's own numbers: the number of each refusal and the values that it carries ("The desk's numbers").
+-- What the desk says, in 01's own numbers and 02's: the number of each refusal and the values that it carries ("The desk's numbers").
 -- An answer is said as the list of its number and then its values.
 -- Assumes nothing.
 use mathlib.Core.List.{List, [], _∷_}
@@ -6,7 +6,7 @@ use Prim.Native.Nat.{ℕ, zero, suc}
 use lib.ListN.{getD}
 use Rattle.rules.specs.declared.Header.{Header}
 use Rattle.rules.specs.declared.Refusal.{Refusal}
-use Rattle.rules.specs.declared.Refusal.the-variants.{RaggedTable, TooManyRules, LongPrefix, StrayBit, UnknownAction, SpareBytes, ShortArea, NotAHeader, DamagedArea, ShortList, NotAnOrder, ShortOutput, NotAllowed}
+use Rattle.rules.specs.declared.Refusal.the-variants.{RaggedTable, TooManyRules, LongPrefix, StrayBit, UnknownAction, SpareBytes, ShortArea, NotAHeader, DamagedArea, ShortList, NotAnOrder, ShortOutput, NotAllowed, StrayPort}
 use Rattle.rules.specs.declared.numbers.Place.{Place}
 use Rattle.rules.specs.declared.numbers.Place.the-variants.{At, Nowhere}
 use Rattle.rules.specs.declared.Checked.{Checked}
@@ -32,6 +32,7 @@ said ShortList = 10 ∷ []
 said NotAnOrder = 11 ∷ []
 said ShortOutput = 12 ∷ []
 said (NotAllowed c) = 13 ∷ c .lower ∷ c .higher ∷ headerBytes (values (c .header))
+said (StrayPort place) = 14 ∷ place ∷ []
 
 -- the number alone
 unfoldable pub numberOf : Refusal → ℕ

@@ -1,7 +1,7 @@
 -- A rule table: its records, when a record is at fault, and the verdict on the whole.
 -- Assumes nothing.
 use mathlib.Core.Path.{_≡_}
-use mathlib.Core.Bool.{Bool, not, cond}
+use mathlib.Core.Bool.{Bool, not, cond, _&&_}
 use mathlib.Core.List.{List, [], _∷_, map}
 use mathlib.Core.Option.{Option, none, some}
 use Prim.Native.Nat.{ℕ, _*_, _/_, _%_}
@@ -12,6 +12,7 @@ use Rattle.bits.specs.Tests.{any, upFrom, lowest}
 use Rattle.rules.specs.Field.{Field, fields, valueIn, lengthIn}
 use Rattle.rules.specs.Action.{actionIn, isUnknown}
 use Rattle.rules.specs.Rule.{Rule, ruleOf}
+use Rattle.rules.specs.Ports.{asksPort, hasPorts}
 
 -- "A rule table is records of 24 bytes, no header, at most 256 of them"
 abbrev pub recordSize : ℕ
@@ -50,6 +51,10 @@ unknownAction bytes = isUnknown (actionIn bytes)
 unfoldable pub spareBytes : List ℕ → Bool
 spareBytes bytes = any (λ b. not (eqb b 0)) (take 4 (drop 20 bytes))
 
+-- 14: "a rule with a port length above 0 is refused unless its protocol is exactly 6 or exactly 17" (02, Q-1)
+unfoldable pub strayPort : List ℕ → Bool
+strayPort bytes = asksPort (ruleOf bytes) && not (hasPorts (ruleOf bytes))
+
 -- a test of one rule: its number, and when a record fails it
 pub record Test : Type 0 where
   pub number : ℕ
@@ -58,9 +63,9 @@ pub record Test : Type 0 where
 abbrev pub test : ℕ → (List ℕ → Bool) → Test
 test n f = record { number = n; fails = f }
 
--- "within a rule 3 to 6 are tried in that order"
+-- the tests of a rule, in the order in which they are tried: "within a rule 3 to 6", and 14 "tried after 6" (02, Q-1)
 unfoldable pub ruleTests : List Test
-ruleTests = test 3 longPrefix ∷ test 4 strayBit ∷ test 5 unknownAction ∷ test 6 spareBytes ∷ []
+ruleTests = test 3 longPrefix ∷ test 4 strayBit ∷ test 5 unknownAction ∷ test 6 spareBytes ∷ test 14 strayPort ∷ []
 
 -- the number of the first test that a record fails; 0 where it passes all
 unfoldable pub firstFailed : List Test → List ℕ → ℕ

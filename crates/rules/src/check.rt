@@ -11,8 +11,17 @@ ghost use mathlib.Core.Bool.{false};
 ghost use Prim.Native.Nat.{_+_, _*_, _≤_};
 ghost use lib.ListN.{length};
 ghost use Rattle.rules.specs.Action.{decoded};
+ghost use Rattle.rules.specs.Rule.{ruleOf};
+ghost use Rattle.rules.specs.Ports.{asksPort, hasPorts};
 ghost use Rattle.rules.specs.Refusal.{checkedSaid, firstRefusal};
-ghost use Rattle.rules.specs.Table.{recordSize, recordAt, longPrefix, strayBit, ruleSaid, rulesSaid, verdict};
+ghost use Rattle.rules.specs.Table.{recordSize, recordAt, longPrefix, strayBit, strayPort, ruleSaid, rulesSaid, verdict};
+
+// The fields of Q-1, by their number.
+const SOURCE_PORT: usize = 2;
+
+const DESTINATION_PORT: usize = 3;
+
+const PROTOCOL: usize = 4;
 
 // An action from its two bytes. No kind but 1 delivers.
 pub fn decode(kind: u8, feed: u8) -> Decoded
@@ -61,7 +70,32 @@ fn has_stray_bit(rule: &[u8]) -> bool
     false
 }
 
-// The tests of one rule, 3 to 6 in that order.
+// Some port is asked for: its prefix is not empty.
+fn asks_port(rule: &[u8]) -> bool
+    requires { ⌜ length (now rule) ≡ recordSize ⌝ }
+    ensures { λ r. ⌜ r ≡ asksPort (ruleOf (now (rule .entry))) ⌝ }
+{
+    crate::length_of(rule, SOURCE_PORT) != 0 || crate::length_of(rule, DESTINATION_PORT) != 0
+}
+
+// The protocol is exactly one that has ports.
+fn has_ports(rule: &[u8]) -> bool
+    requires { ⌜ (length (now rule) ≡ recordSize) × (longPrefix (now rule) ≡ false) ⌝ }
+    ensures { λ r. ⌜ r ≡ hasPorts (ruleOf (now (rule .entry))) ⌝ }
+{
+    let protocol = crate::value_of(rule, PROTOCOL);
+    crate::length_of(rule, PROTOCOL) == 8 && (protocol == 6 || protocol == 17)
+}
+
+// 14: a port is asked for, and the protocol is none that has ports (02, Q-1).
+fn has_stray_port(rule: &[u8]) -> bool
+    requires { ⌜ (length (now rule) ≡ recordSize) × (longPrefix (now rule) ≡ false) ⌝ }
+    ensures { λ r. ⌜ r ≡ strayPort (now (rule .entry)) ⌝ }
+{
+    asks_port(rule) && !has_ports(rule)
+}
+
+// The tests of one rule, in their order.
 pub fn check_rule(rule: &[u8], place: usize) -> Checked
     requires { ⌜ length (now rule) ≡ recordSize ⌝ }
     ensures { λ r. ⌜ checkedSaid r ≡ ruleSaid place (now (rule .entry)) ⌝ }
@@ -77,6 +111,9 @@ pub fn check_rule(rule: &[u8], place: usize) -> Checked
     };
     if bits::number_at(rule, 20, 4) != 0 {
         return Checked::Refused(Refusal::SpareBytes(place));
+    }
+    if has_stray_port(rule) {
+        return Checked::Refused(Refusal::StrayPort(place));
     }
     Checked::Accepted
 }

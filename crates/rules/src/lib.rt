@@ -52,7 +52,7 @@ pub struct Crossing {
     pub header: Header,
 }
 
-// Every refusal of the desk, in the order of its numbers 1 to 13. specs/Refusal.antt has the numbers and what each carries.
+// Every refusal of the desk, in the order of its numbers, from 1. specs/Refusal.antt has the numbers and what each carries.
 pub enum Refusal {
     RaggedTable,
     TooManyRules,
@@ -67,6 +67,7 @@ pub enum Refusal {
     NotAnOrder,
     ShortOutput,
     NotAllowed(Crossing),
+    StrayPort(usize),
 }
 
 pub enum Checked {

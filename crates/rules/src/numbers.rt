@@ -9,7 +9,7 @@ pub enum Place {
     Nowhere,
 }
 
-// The refusal's number, 1 to 13.
+// The refusal's number, from 1.
 pub fn number_of(refusal: Refusal) -> u64
     ensures { λ r. ⌜ r ≡ numberOf refusal ⌝ }
 {
@@ -27,10 +27,11 @@ pub fn number_of(refusal: Refusal) -> u64
         Refusal::NotAnOrder => 11,
         Refusal::ShortOutput => 12,
         Refusal::NotAllowed(_) => 13,
+        Refusal::StrayPort(_) => 14,
     }
 }
 
-// The place that a refusal carries: 3 to 6 do.
+// The place that a refusal carries: those of one rule do.
 pub fn place_of(refusal: Refusal) -> Place
     ensures { λ r. ⌜ r ≡ placeOf refusal ⌝ }
 {
@@ -48,5 +49,6 @@ pub fn place_of(refusal: Refusal) -> Place
         Refusal::NotAnOrder => Place::Nowhere,
         Refusal::ShortOutput => Place::Nowhere,
         Refusal::NotAllowed(_) => Place::Nowhere,
+        Refusal::StrayPort(place) => Place::At(place),
     }
 }

@@ -41,29 +41,29 @@ fn unknown_kind(table: &[u8], area: &mut [u32]) {
 
 fn all_rules(table: &[u8], area: &mut [u32]) {
     attempt(
-        b"256 rules of full length, 208328 words",
+        b"256 rules of full length, 202861 words",
         table,
         6144,
         area,
-        208328,
+        202861,
     );
     corners(area);
     attempt(
-        b"256 rules of full length, 208329 words",
+        b"256 rules of full length, 202862 words",
         table,
         6144,
         area,
-        208329,
+        202862,
     );
     corners(area);
 }
 
 // The first record, the last one of full length, and the word beyond.
 fn corners(area: &[u32]) {
-    if 208330 <= area.len() {
+    if 202863 <= area.len() {
         words(&area[0..11]);
-        words(&area[208318..208329]);
-        words(&area[208329..208330]);
+        words(&area[202851..202862]);
+        words(&area[202862..202863]);
         say(b"\n");
     }
 }

@@ -10,7 +10,7 @@ use Rattle.rules.specs.declared.Decoded.the-variants.{Known}
 use Rattle.rules.specs.Action.{actionIn}
 use Rattle.rules.specs.Refusal.{said, checkedSaid}
 use Rattle.rules.specs.Table.{longPrefix, strayBit, spareBytes}
-use Rattle.rules.proofs.TableLaws.{said-long, said-stray, said-unknown, said-spare, said-done, spare-number}
+use Rattle.rules.proofs.TableLaws.{said-long, said-stray, said-unknown, said-spare, said-port, said-done, spare-number}
 use Rattle.rules.proofs.check.check_rule.Statement.{statement}
 use Rattle.rules.proofs.check.check_rule.Tie as tie
 
@@ -63,15 +63,38 @@ returns-4 c =
     let spare : spareBytes b ≡ true = sym (spare-number b) ∙ ap not (ne-eqb (numberAt b 20 4) 0 (λ e. c .if3 .taken (c .before .number-at .ensures .0 ∙ e))) in
     sym (said-spare (a .place) b _ (short k) (clean k) (known t) spare)
 
+-- past the fourth
+spare-zero : (c : tie.Else3) → let k = c .before .before .before .before .before .before .before in
+    spareBytes (now (k .before .before .before .before .before .args .rule)) ≡ false
+spare-zero c =
+    let k = c .before .before .before .before .before .before .before in
+    let b = now (k .before .before .before .before .before .args .rule) in
+    sym (spare-number b) ∙ ap not (eq-eqb (numberAt b 20 4) 0 (sym (c .before .number-at .ensures .0) ∙ c .if3 .left))
+
+has-stray-port-requires : tie.Need-has-stray-port-requires
+has-stray-port-requires c κs = (search needs, short (c .before .before .before .before .before .before .before))
+
 returns-5 : tie.Need-returns-5
 unfolding checkedSaid said
 returns-5 c =
-    let t = c .before .before in
+    let e = c .before .before in
+    let t = e .before .before in
     let k = t .before .before .before .before .before in
     let a = k .before .before .before .before .before .args in
-    let b = now (a .rule) in
-    let zero : spareBytes b ≡ false = sym (spare-number b) ∙ ap not (eq-eqb (numberAt b 20 4) 0 (sym (c .before .number-at .ensures .0) ∙ c .if3 .left)) in
-    sym (said-done (a .place) b _ (short k) (clean k) (known t) zero)
+    sym
+    (said-port (a .place) (now (a .rule)) _ (short k) (clean k) (known t) (spare-zero e)
+    (sym (c .before .has-stray-port .ensures) ∙ c .if4 .taken))
+
+returns-6 : tie.Need-returns-6
+unfolding checkedSaid said
+returns-6 c =
+    let e = c .before .before in
+    let t = e .before .before in
+    let k = t .before .before .before .before .before in
+    let a = k .before .before .before .before .before .args in
+    sym
+    (said-done (a .place) (now (a .rule)) _ (short k) (clean k) (known t) (spare-zero e)
+    (sym (c .before .has-stray-port .ensures) ∙ c .if4 .left))
 
 pub check-rule-spec : {M : Type 1} → statement M
 check-rule-spec =
@@ -89,4 +112,6 @@ check-rule-spec =
     returns-3
     (λ c κs. search needs)
     returns-4
-    returns-5)
+    has-stray-port-requires
+    returns-5
+    returns-6)
