@@ -1,8 +1,8 @@
 //! Seeded random cases: tables, headers, areas, lists, orders, and ways to
 //! spoil them. Small pools of nesting prefixes make rules meet one another.
 
-use crate::desk::{self, FIELDS, HEADER_BYTES, LENGTHS_START, MOST_RULES, RECORD_WORDS};
-use crate::desk::{ROOT_WORDS, RULE_BYTES, STARTS, WIDTHS};
+use crate::desk::{self, FIELDS, HEADER_BYTES, LENGTHS_START, MOST_RULES, PORTS, PROTOCOL};
+use crate::desk::{RECORD_WORDS, ROOT_WORDS, RULE_BYTES, STARTS, WIDTHS};
 use crate::pipe::{MOST_ORDER_ENTRIES, MOST_TABLE_BYTES};
 
 /// splitmix64
@@ -72,16 +72,31 @@ fn put_value(bytes: &mut [u8], field: usize, value: u64) {
     bytes[STARTS[field]..STARTS[field] + width].copy_from_slice(&value.to_be_bytes()[from..]);
 }
 
+fn put_prefix(rule: &mut [u8], field: usize, (value, length): (u64, u32)) {
+    put_value(rule, field, value);
+    rule[LENGTHS_START + field] = length as u8;
+}
+
 /// The value with the bits after the prefix made zero.
 fn cut(value: u64, width: u32, length: u32) -> u64 {
     let after = width - length;
     (value >> after) << after
 }
 
+/// Any value of the field. Of protocols often 6 or 17: only these go with
+/// ports, and the prefixes of rules without ports have to meet them.
+fn base(random: &mut Random, field: usize) -> u64 {
+    let any = random.next() & ((1 << WIDTHS[field]) - 1);
+    match field {
+        PROTOCOL => random.pick(&[6, 17, any]),
+        _ => any,
+    }
+}
+
 /// Prefixes of one field that nest and part at random bits.
-fn pool(random: &mut Random, width: u32, size: usize) -> Vec<(u64, u32)> {
-    let mask = (1u64 << width) - 1;
-    let bases: Vec<u64> = (0..random.between(1, 3)).map(|_| random.next() & mask).collect();
+fn pool(random: &mut Random, field: usize, size: usize) -> Vec<(u64, u32)> {
+    let width = WIDTHS[field];
+    let bases: Vec<u64> = (0..random.between(1, 3)).map(|_| base(random, field)).collect();
     let mut prefixes = vec![];
     for _ in 0..size {
         let mut value = random.pick(&bases);
@@ -105,41 +120,58 @@ fn actions(random: &mut Random) -> Vec<(u8, u8)> {
     (0..random.between(1, 4)).map(|_| random.pick(&some)).collect()
 }
 
+/// A rule with ports is refused for a protocol other than 6 and 17. So it takes
+/// one of the given ones, or loses its ports and keeps its protocol.
+fn settle_ports(random: &mut Random, rule: &mut [u8], protocols: &[u64], keep: usize) {
+    if PORTS.iter().all(|port| rule[LENGTHS_START + port] == 0) {
+        return;
+    }
+    if random.percent(keep) {
+        put_prefix(rule, PROTOCOL, (random.pick(protocols), WIDTHS[PROTOCOL]));
+    } else {
+        for port in PORTS {
+            put_prefix(rule, port, (0, 0));
+        }
+    }
+}
+
 /// A table that passes the check when the count is at most 256.
 pub fn table(random: &mut Random, count: usize) -> Vec<u8> {
     let most = random.pick(&[2, 5, 9, 16, 28]);
-    let pools: Vec<Vec<(u64, u32)>> = WIDTHS
-        .iter()
-        .map(|width| {
+    let pools: Vec<Vec<(u64, u32)>> = (0..FIELDS)
+        .map(|field| {
             let size = random.between(1, most);
-            pool(random, *width, size)
+            pool(random, field, size)
         })
         .collect();
-    let any = random.pick(&[0, 10, 40, 70]);
+    let any = random.pick(&[0, 10, 30, 60]);
+    let protocols = random.pick(&[[6, 6], [17, 17], [6, 17]]);
+    let keep = random.pick(&[60, 80, 100]);
     let actions = actions(random);
     let mut table = vec![];
     for _ in 0..count {
         let mut rule = [0; RULE_BYTES];
         for field in 0..FIELDS {
             if !random.percent(any) {
-                let (value, length) = random.pick(&pools[field]);
-                put_value(&mut rule, field, value);
-                rule[LENGTHS_START + field] = length as u8;
+                put_prefix(&mut rule, field, random.pick(&pools[field]));
             }
         }
+        settle_ports(random, &mut rule, &protocols, keep);
         (rule[18], rule[19]) = random.pick(&actions);
         table.extend_from_slice(&rule);
     }
     table
 }
 
-/// A full table of exact random values: its index fits in no lent area.
+/// A full table of exact random values, at times without ports: its index fits
+/// in no lent area.
 pub fn giant_table(random: &mut Random) -> Vec<u8> {
     let mut table = vec![];
     for _ in 0..MOST_RULES {
         let mut rule = random.bytes(RULE_BYTES);
         rule[LENGTHS_START..18].copy_from_slice(&[32, 32, 16, 16, 8]);
         rule[18..].copy_from_slice(&[1, 7, 0, 0, 0, 0]);
+        settle_ports(random, &mut rule, &[6, 17], 60);
         table.extend_from_slice(&rule);
     }
     table
@@ -162,8 +194,7 @@ fn spoil_bits(random: &mut Random, rule: &mut [u8]) {
     let any = random.below(after);
     let wrong = random.pick(&[0, any, after - 1]);
     let kept = cut(desk::field_value(rule, field), width, length);
-    put_value(rule, field, kept | 1 << wrong);
-    rule[LENGTHS_START + field] = length as u8;
+    put_prefix(rule, field, (kept | 1 << wrong, length));
 }
 
 fn spoil_action(random: &mut Random, rule: &mut [u8]) {

@@ -18,6 +18,8 @@ const BLOCKS: usize = MOST_RULES / BLOCK;
 /// First byte and width in bits of each field; the same in rule and header.
 pub const STARTS: [usize; FIELDS] = [0, 4, 8, 10, 12];
 pub const WIDTHS: [u32; FIELDS] = [32, 32, 16, 16, 8];
+pub const PORTS: [usize; 2] = [2, 3];
+pub const PROTOCOL: usize = 4;
 /// Bytes 13 to 17 of a rule: the prefix lengths.
 pub const LENGTHS_START: usize = 13;
 
