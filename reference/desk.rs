@@ -1,4 +1,5 @@
-//! The rule desk, read straight from the paper with the rules ("01" below) and kept
+//! The rule desk, read straight from the paper with the rules ("01" below) and the
+//! paper with the changes asked for since ("02"; its Q-1 gives number 14), and kept
 //! as plain as possible: rules are scanned one by one, the index is made from
 //! a list of paths in order of first appearance. Nothing here is fast.
 
@@ -18,6 +19,7 @@ const BLOCKS: usize = MOST_RULES / BLOCK;
 /// First byte and width in bits of each field; the same in rule and header.
 pub const STARTS: [usize; FIELDS] = [0, 4, 8, 10, 12];
 pub const WIDTHS: [u32; FIELDS] = [32, 32, 16, 16, 8];
+/// The fields that 14 is about: source port and destination port, protocol.
 pub const PORTS: [usize; 2] = [2, 3];
 pub const PROTOCOL: usize = 4;
 /// Bytes 13 to 17 of a rule: the prefix lengths.
@@ -31,9 +33,25 @@ const FIELD_NAMES: &[&str] = &[
     "protocol",
 ];
 const TAIL_NAMES: &[&str] = &["byte 20", "byte 21", "byte 22", "byte 23"];
+/// Which port lengths are above 0, and the protocol: another one exactly, the
+/// value 6 but not exactly, length 0, or any other prefix.
+const PORT_NAMES: &[&str] = &[
+    "source port for another protocol",
+    "source port for 6 at length 7",
+    "source port for any protocol",
+    "source port for another prefix",
+    "destination port for another protocol",
+    "destination port for 6 at length 7",
+    "destination port for any protocol",
+    "destination port for another prefix",
+    "both ports for another protocol",
+    "both ports for 6 at length 7",
+    "both ports for any protocol",
+    "both ports for another prefix",
+];
 
-/// A refusal: its number in 01's table, the values it carries, and (for the
-/// counts only, never compared) which of its causes applied.
+/// A refusal: its number in 01's table (14: in 02), the values it carries, and
+/// (for the counts only, never compared) which of its causes applied.
 #[derive(Debug, Clone, PartialEq)]
 pub struct Refusal {
     pub number: u32,
@@ -64,6 +82,7 @@ pub fn causes(number: u32) -> &'static [&'static str] {
         11 => &["too short", "too long", "entry too large", "entry repeated"],
         12 => &["one byte short", "shorter"],
         13 => &["side by side in the new order", "apart in the new order"],
+        14 => PORT_NAMES,
         _ => &[],
     }
 }
@@ -148,7 +167,7 @@ pub fn action(rule: &[u8], place: usize) -> Result<Action, Refusal> {
     }
 }
 
-// ---- Refusals 1 to 6 ----
+// ---- Refusals 1 to 6 and 14 ----
 
 fn check_size(table: &[u8]) -> Result<(), Refusal> {
     let over = rule_count(table) > MOST_RULES;
@@ -161,26 +180,74 @@ fn check_size(table: &[u8]) -> Result<(), Refusal> {
     Ok(())
 }
 
-/// "within a rule 3 to 6 are tried in that order"
-fn check_rule(rule: &[u8], place: usize) -> Result<(), Refusal> {
+fn check_lengths(rule: &[u8], place: usize) -> Result<(), Refusal> {
     for field in 0..FIELDS {
         if u32::from(rule[LENGTHS_START + field]) > WIDTHS[field] {
             return refuse_at(3, place, causes(3)[field]);
         }
     }
+    Ok(())
+}
+
+/// After a length above the limit, which is 3's fault, stands no bit.
+fn check_bits(rule: &[u8], place: usize) -> Result<(), Refusal> {
     for field in 0..FIELDS {
-        let after = WIDTHS[field] - u32::from(rule[LENGTHS_START + field]);
+        let after = WIDTHS[field].saturating_sub(u32::from(rule[LENGTHS_START + field]));
         if field_value(rule, field) % (1 << after) != 0 {
             return refuse_at(4, place, causes(4)[field]);
         }
     }
-    action(rule, place)?;
+    Ok(())
+}
+
+fn check_tail(rule: &[u8], place: usize) -> Result<(), Refusal> {
     for byte in 20..RULE_BYTES {
         if rule[byte] != 0 {
             return refuse_at(6, place, causes(6)[byte - 20]);
         }
     }
     Ok(())
+}
+
+/// "a rule with a port length above 0 is refused unless its protocol is
+/// exactly 6 or exactly 17 (length 8)"
+fn check_ports(rule: &[u8], place: usize) -> Result<(), Refusal> {
+    let ports = match PORTS.map(|port| rule[LENGTHS_START + port] > 0) {
+        [false, false] => return Ok(()),
+        [true, false] => 0,
+        [false, true] => 1,
+        [true, true] => 2,
+    };
+    let protocol = match (field_value(rule, PROTOCOL), rule[LENGTHS_START + PROTOCOL]) {
+        (6 | 17, 8) => return Ok(()),
+        (_, 8) => 0,
+        (6, 7) => 1,
+        (_, 0) => 2,
+        _ => 3,
+    };
+    refuse_at(14, place, causes(14)[ports * 4 + protocol])
+}
+
+/// The tests of a rule in the order of trying: 3 to 6, then 14.
+fn tests(rule: &[u8], place: usize) -> [Result<(), Refusal>; 5] {
+    [
+        check_lengths(rule, place),
+        check_bits(rule, place),
+        action(rule, place).map(|_| ()),
+        check_tail(rule, place),
+        check_ports(rule, place),
+    ]
+}
+
+/// The numbers of all tests that a rule fails, in the order of trying.
+pub fn faults(rule: &[u8]) -> Vec<u32> {
+    let failed = tests(rule, 0).into_iter().filter_map(|test| test.err());
+    failed.map(|refusal| refusal.number).collect()
+}
+
+/// The first test that fails decides.
+fn check_rule(rule: &[u8], place: usize) -> Result<(), Refusal> {
+    tests(rule, place).into_iter().collect()
 }
 
 /// 1, 2, then the rules, lowest place first.
@@ -328,7 +395,8 @@ fn go_down(area: &[u32], field: usize, header: &[u8]) -> Result<usize, Refusal> 
     Ok(record)
 }
 
-/// Lookup by 01's steps over any area: 8, 1, 2, 9, then 5 for the winner.
+/// Lookup by 01's steps over any area: 8, 1, 2, 9, then 5 for the winner. Of a
+/// rule it reads the action bytes alone, so 14 never comes.
 pub fn lookup(table: &[u8], area: &[u32], header: &[u8]) -> Result<Found, Refusal> {
     if header.len() != HEADER_BYTES {
         return refuse(8, causes(8)[usize::from(header.len() > HEADER_BYTES)]);

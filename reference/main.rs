@@ -2,7 +2,7 @@
 //!
 //!     reference [--tables N] [--lookups M] [--seed S] -- COMMAND ARGS...
 //!     reference --self         serves the protocol below from desk.rs
-//!     reference --self-test    checks the values that 01 settles
+//!     reference --self-test    checks the values that 01 and 02 settle
 //!
 //! THE PROTOCOL. COMMAND reads requests on standard input and writes replies
 //! on standard output, in binary. It reads a whole request before it writes
@@ -37,7 +37,7 @@
 //!
 //! Answers by number:
 //!   refused 1, 2, 7, 8, 9, 10, 11, 12:  number
-//!   refused 3, 4, 5, 6:                 number, place
+//!   refused 3, 4, 5, 6, 14:             number, place
 //!   refused 13:                         13, lower, higher, 13 header bytes
 //!   build done:   0, words needed
 //!   lookup done:  0, false blocks, 1, place, kind, feed (hold: kind 0, feed

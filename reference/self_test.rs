@@ -1,5 +1,6 @@
-//! The settled values of 01 (K1 to K12 and the "also run" list), the blocks
-//! of 4 of source document 000, and lookup's steps against the scan.
+//! The settled values of 01 (K1 to K12 and the "also run" list; K11 as 02's Q-1
+//! has it) and the limits of Q-1, the blocks of 4 of source document 000, and
+//! lookup's steps against the scan.
 
 use crate::cases::{self, Random};
 use crate::desk::{self, Action, Found, Prefix, Refusal, BLOCK, FIELDS, RULE_BYTES};
@@ -12,6 +13,17 @@ fn rule(source: (u32, u8), destination: (u32, u8), feed: u8) -> Vec<u8> {
     rule[14] = destination.1;
     rule[18] = 1;
     rule[19] = feed;
+    rule
+}
+
+const ANY: (u8, u8) = (0, 0);
+
+/// Holds; the prefixes are values (ports: below 256) and lengths.
+fn port_rule(protocol: (u8, u8), source: (u8, u8), destination: (u8, u8)) -> Vec<u8> {
+    let mut rule = vec![0; RULE_BYTES];
+    (rule[12], rule[17]) = protocol;
+    (rule[9], rule[15]) = source;
+    (rule[11], rule[16]) = destination;
     rule
 }
 
@@ -48,7 +60,7 @@ fn number<T>(result: Result<T, Refusal>) -> u32 {
     result.err().map_or(0, |refusal| refusal.number)
 }
 
-/// K1 to K4, K11, K12.
+/// K1 to K4, K12.
 fn builds() {
     let table = six_rules();
     assert_eq!(desk::words_needed(&table), 198, "K1");
@@ -62,9 +74,6 @@ fn builds() {
     let mut short = vec![7; 197];
     assert_eq!(number(desk::build(&table, &mut short)), 7);
     assert_eq!(short, vec![7; 197], "a refusal leaves the area");
-    let mut exact = vec![0; RULE_BYTES];
-    (exact[11], exact[12], exact[16], exact[17]) = (80, 1, 16, 8);
-    assert_eq!(desk::check(&exact), Ok(()), "K11");
     let mut unknown = table.clone();
     unknown[3 * RULE_BYTES + 18] = 2;
     let answer = desk::answer_with_count(&desk::build(&unknown, &mut area));
@@ -117,6 +126,61 @@ fn limits() {
     assert_eq!(number(desk::check(&rule((5, 31), (0, 0), 1))), 4);
     assert_eq!(desk::show(&[3; 25], 0), [3; RULE_BYTES]);
     assert_eq!(desk::show(&[3; 25], 1), [0; 0]);
+}
+
+/// K11, by every call that checks rules and before 7, 10 and 11; but not by
+/// lookup, whose index may be another table's.
+fn port_refusals() {
+    let refused = port_rule((1, 8), ANY, (80, 16));
+    let built = port_rule((6, 8), ANY, (80, 16));
+    let mut area = [7; 54];
+    assert_eq!(desk::answer_with_count(&desk::build(&refused, &mut area)), [14, 0], "K11");
+    assert_eq!(area, [7; 54], "a refusal leaves the area");
+    let pair = [built.clone(), port_rule((6, 8), (80, 16), ANY)].concat();
+    assert_eq!(number(desk::pairs(&pair, &mut [])), 10);
+    let table = [refused.clone(), pair].concat();
+    assert_eq!(desk::answer_with_count(&desk::pairs(&table, &mut [])), [14, 0]);
+    assert_eq!(desk::answer_of_judge(&desk::judge(&table, &[], &mut [])), [14, 0]);
+    let mut area = vec![0; desk::words_needed(&built)];
+    assert_eq!(number(desk::build(&built, &mut area)), 0);
+    let found = desk::lookup(&refused, &area, &[0, 0, 0, 0, 0, 0, 0, 0, 0, 0, 0, 80, 6]);
+    assert_eq!(found, Ok(Found { falses: 0, hit: Some((0, Action::Hold)) }));
+}
+
+/// Protocols around 6 and 17, with any of the ports, of value 0, or none.
+fn port_limits() {
+    let exact = [0, 1, 5, 6, 7, 16, 17, 18, 255].map(|value| (value, 8));
+    let shorter = [(6, 7), (16, 7), (0, 1), (0, 0)];
+    for protocol in exact.into_iter().chain(shorter) {
+        let with_ports = protocol == (6, 8) || protocol == (17, 8);
+        for source in [0, 1, 16] {
+            for destination in [0, 1, 16] {
+                let rule = port_rule(protocol, (0, source), (0, destination));
+                let accepted = with_ports || source + destination == 0;
+                let expected = if accepted { 0 } else { 14 };
+                assert_eq!(number(desk::check(&rule)), expected, "{rule:?}");
+            }
+        }
+    }
+}
+
+/// 14 is tried after 3 to 6, but the lowest place comes first.
+fn port_order() {
+    for (byte, value, first) in [(13, 33, 3), (3, 1, 4), (18, 2, 5), (23, 1, 6)] {
+        let mut rule = port_rule((1, 8), (80, 16), (80, 16));
+        assert_eq!(desk::faults(&rule), [14]);
+        rule[byte] = value;
+        assert_eq!(desk::faults(&rule), [first, 14]);
+        assert_eq!(number(desk::check(&rule)), first);
+    }
+    // 17 ends in 1: at length 7 that is a bit after the prefix.
+    assert_eq!(desk::faults(&port_rule((17, 7), ANY, (80, 16))), [4, 14]);
+    let long = rule((5, 33), (0, 0), 1);
+    let ports = port_rule((1, 8), ANY, (80, 16));
+    let build = |rules: [&[u8]; 2]| desk::build(&rules.concat(), &mut []);
+    assert_eq!(desk::answer_with_count(&build([&ports, &long])), [14, 0]);
+    assert_eq!(desk::answer_with_count(&build([&long, &ports])), [3, 0]);
+    assert_eq!(desk::answer_with_count(&build([&six_rules(), &ports])), [14, 6]);
 }
 
 fn drawn(bits: &[bool]) -> String {
@@ -199,6 +263,9 @@ pub fn run() {
     lookups();
     moves();
     limits();
+    port_refusals();
+    port_limits();
+    port_order();
     blocks_of_four();
     scan_against_steps();
     println!("self-test passed");
