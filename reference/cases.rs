@@ -211,17 +211,51 @@ fn spoil_tail(random: &mut Random, rule: &mut [u8]) {
     rule[random.between(20, 23)] = random.between(1, 255) as u8;
 }
 
-fn spoil_rule(random: &mut Random, rule: &mut [u8]) {
+/// Of value 0, as in the header of a protocol without ports, half the time.
+fn port_prefix(random: &mut Random) -> (u64, u32) {
+    let between = random.between(1, 16) as u32;
+    let length = random.pick(&[1, between, 16]);
+    let any = random.next() & 0xFFFF;
+    (cut(random.pick(&[0, any]), 16, length), length)
+}
+
+/// A protocol prefix that is not exactly 6 or 17, but clean: 6 ends in 0 and can
+/// stay at length 7; 17 ends in 1, so that cut off it is another value.
+fn protocol_without_ports(random: &mut Random) -> (u64, u32) {
+    let ranges = [(0, 5), (7, 16), (18, 255)];
+    let [below, amid, above] = ranges.map(|(low, high)| random.between(low, high) as u64);
+    let length = random.between(1, 7) as u32;
     match random.below(4) {
+        0 => (random.pick(&[0, 1, 5, 7, 16, 18, 255, below, amid, above]), 8),
+        1 => (6, 7),
+        2 => (0, 0),
+        _ => (cut(base(random, PROTOCOL), 8, length), length),
+    }
+}
+
+/// A port for a protocol without ports: source, destination or both.
+fn spoil_ports(random: &mut Random, rule: &mut [u8]) {
+    let given = random.pick(&[[true, false], [false, true], [true, true]]);
+    for (port, given) in PORTS.into_iter().zip(given) {
+        let prefix = if given { port_prefix(random) } else { (0, 0) };
+        put_prefix(rule, port, prefix);
+    }
+    put_prefix(rule, PROTOCOL, protocol_without_ports(random));
+}
+
+/// The ports more often than the others: 14 has the most causes.
+fn spoil_rule(random: &mut Random, rule: &mut [u8]) {
+    match random.below(6) {
         0 => spoil_length(random, rule),
         1 => spoil_bits(random, rule),
         2 => spoil_action(random, rule),
-        _ => spoil_tail(random, rule),
+        3 => spoil_tail(random, rule),
+        _ => spoil_ports(random, rule),
     }
 }
 
 /// A table with one to three faults: the lowest place and, within a rule,
-/// the lowest number must be named. Or a table of a wrong length.
+/// the test tried first must be named. Or a table of a wrong length.
 pub fn spoilt_table(random: &mut Random) -> Vec<u8> {
     let few = random.between(1, 40);
     let count = random.pick(&[1, few, few, few, MOST_RULES]);

@@ -2,11 +2,19 @@
 //! desk.rs, answers and lent memory compared.
 
 use crate::cases::{self, Random};
-use crate::desk::{self, Action, Found, Refusal, BLOCK, HEADER_BYTES};
+use crate::desk::{self, Action, Found, Prefix, Refusal, BLOCK, HEADER_BYTES, PORTS, PROTOCOL};
 use crate::pipe::{Asked, MOST_AREA_WORDS, MOST_HEADERS, MOST_LIST_ENTRIES, MOST_OUTPUT_BYTES};
 use crate::tally::Tally;
 use std::fmt::Debug;
 use std::io;
+
+/// Port, protocol, and the line of accepted tables that have such a rule.
+const PORT_LINES: [(usize, u64, &str); 4] = [
+    (PORTS[0], 6, "tables built with a source port for 6"),
+    (PORTS[1], 6, "tables built with a destination port for 6"),
+    (PORTS[0], 17, "tables built with a source port for 17"),
+    (PORTS[1], 17, "tables built with a destination port for 17"),
+];
 
 pub struct Comparison {
     asked: Asked,
@@ -71,7 +79,7 @@ impl Comparison {
             self.judge(random, &table)?;
         }
         self.show(random, &table)?;
-        for _ in 0..2 {
+        for _ in 0..3 {
             let spoilt = cases::spoilt_table(random);
             self.spoilt(random, &spoilt)?;
         }
@@ -99,14 +107,44 @@ impl Comparison {
                 let beyond = ours.len() > words;
                 self.tally.count_if(!beyond, "builds done with exactly the words needed");
                 self.tally.count_if(beyond, "builds done with words beyond");
+                self.count_ports(table);
             }
             Err(refusal) => {
                 let most = refusal.number == 7 && ours.len() == MOST_AREA_WORDS;
                 self.tally.count_if(most, "builds refused with an area of 65536 words");
                 self.tally.refused("build", &refusal);
+                if let [place] = refusal.carries[..] {
+                    self.count_faults(desk::rule_at(table, place as usize));
+                }
             }
         }
         Ok(ours)
+    }
+
+    /// 14 must not empty the accepted tables of rules with ports.
+    fn count_ports(&mut self, table: &[u8]) {
+        let rules = desk::prefixes(table);
+        for (port, protocol, line) in PORT_LINES {
+            let exact = Prefix { bits: protocol, length: 8 };
+            let held = rules.iter().any(|rule| rule[port].length > 0 && rule[PROTOCOL] == exact);
+            self.tally.count_if(held, line);
+        }
+    }
+
+    /// What the named rule fails: one test alone, or 14 after the one given.
+    fn count_faults(&mut self, rule: &[u8]) {
+        self.tally.count(match desk::faults(rule)[..] {
+            [3] => "rules refused by 3 that fail no other test",
+            [4] => "rules refused by 4 that fail no other test",
+            [5] => "rules refused by 5 that fail no other test",
+            [6] => "rules refused by 6 that fail no other test",
+            [14] => "rules refused by 14 that fail no other test",
+            [3, .., 14] => "rules refused by 3 that fail 14 too",
+            [4, .., 14] => "rules refused by 4 that fail 14 too",
+            [5, .., 14] => "rules refused by 5 that fail 14 too",
+            [6, 14] => "rules refused by 6 that fail 14 too",
+            _ => return,
+        });
     }
 
     /// A build in an area around the needed size, then one that is done.
@@ -370,7 +408,7 @@ impl Comparison {
 
     // ---- Tables with faults ----
 
-    /// 1 to 6 come before 7, 10, 11, 12 and 13.
+    /// 1 to 6 and 14 come before 7, 10, 11, 12 and 13.
     fn spoilt(&mut self, random: &mut Random, table: &[u8]) -> Compared<()> {
         let count = desk::rule_count(table);
         let words = random.pick(&[0, 54, 55, 55 + 11 * count]);

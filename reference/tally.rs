@@ -3,19 +3,32 @@
 use crate::desk::{self, Refusal};
 use std::collections::BTreeMap;
 
-/// What can be refused by which call, in 01's orders of trying.
+/// What can be refused by which call, in the orders of trying (01; 14: 02).
 const REFUSALS: [(&str, &[u32]); 4] = [
-    ("build", &[1, 2, 3, 4, 5, 6, 7]),
+    ("build", &[1, 2, 3, 4, 5, 6, 14, 7]),
     ("lookup", &[8, 1, 2, 9, 5]),
-    ("pairs", &[1, 2, 3, 4, 5, 6, 10]),
-    ("judge", &[1, 2, 3, 4, 5, 6, 11, 12, 13]),
+    ("pairs", &[1, 2, 3, 4, 5, 6, 14, 10]),
+    ("judge", &[1, 2, 3, 4, 5, 6, 14, 11, 12, 13]),
 ];
 
 /// Everything else that must occur, with its line.
-const LINES: [&str; 27] = [
+const LINES: [&str; 40] = [
     "builds done with exactly the words needed",
     "builds done with words beyond",
     "builds refused with an area of 65536 words",
+    "tables built with a source port for 6",
+    "tables built with a destination port for 6",
+    "tables built with a source port for 17",
+    "tables built with a destination port for 17",
+    "rules refused by 3 that fail no other test",
+    "rules refused by 4 that fail no other test",
+    "rules refused by 5 that fail no other test",
+    "rules refused by 6 that fail no other test",
+    "rules refused by 14 that fail no other test",
+    "rules refused by 3 that fail 14 too",
+    "rules refused by 4 that fail 14 too",
+    "rules refused by 5 that fail 14 too",
+    "rules refused by 6 that fail 14 too",
     "lookups that matched",
     "lookups that matched none",
     "lookups that hold",
