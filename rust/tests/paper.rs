@@ -116,7 +116,7 @@ fn k10_move_not_allowed() {
 #[test]
 fn the_header_of_13_has_all_its_bytes() {
     let mut first = [
-        192, 0, 2, 1, 198, 51, 100, 2, 0x12, 0x34, 0, 0, 0, 32, 32, 16, 0, 0, 0, 0, 0, 0, 0, 0,
+        192, 0, 2, 1, 198, 51, 100, 2, 0x12, 0x34, 0, 0, 17, 32, 32, 16, 0, 8, 0, 0, 0, 0, 0, 0,
     ];
     let mut second = [0; 24];
     second[10..13].copy_from_slice(&[0x56, 0x78, 17]);
