@@ -8,7 +8,7 @@ use Rattle.desk.proofs.FaultlessLaws.{accepted-exact}
 use Rattle.desk.proofs.PortAnswers.{lookup-no-port}
 use Rattle.desk.proofs.Reasons as reasons
 use Rattle.desk.proofs.LookReasons as looking
-use Rattle.desk.proofs.RuleRefusals as rule
+use Rattle.desk.proofs.RuleRefusals.{unknown-refuses, port-refuses}
 use Rattle.desk.proofs.Demand1 as one
 use Rattle.desk.proofs.Demand2 as two
 use Rattle.desk.proofs.FalseBlocks.{lookup-done, counts-one}
@@ -25,9 +25,9 @@ demand-1 = record {
   judge-one = judge-one;
   show-one = show-one;
   show-part = shown-part;
-  build-unknown = λ b place. rule.build-unknown place b;
-  pairs-unknown = λ p place. rule.pairs-unknown place p;
-  judge-unknown = λ j place. rule.judge-unknown place j;
+  build-unknown = λ b place. unknown-refuses place .build b;
+  pairs-unknown = λ p place. unknown-refuses place .pairs p;
+  judge-unknown = λ j place. unknown-refuses place .judge j;
   lookup-unknown = one.lookup-unknown;
   lookup-unknown-there = one.lookup-unknown-there;
   unknown-not-built = one.unknown-not-built;
@@ -42,9 +42,9 @@ demand-1 = record {
   build-by-table = reasons.build-by-table;
   pairs-by-table = reasons.pairs-by-table;
   judge-by-table = reasons.judge-by-table;
-  build-stray-port = λ b place. rule.build-stray-port place b;
-  pairs-stray-port = λ p place. rule.pairs-stray-port place p;
-  judge-stray-port = λ j place. rule.judge-stray-port place j;
+  build-stray-port = λ b place. port-refuses place .build b;
+  pairs-stray-port = λ p place. port-refuses place .pairs p;
+  judge-stray-port = λ j place. port-refuses place .judge j;
   lookup-no-port = lookup-no-port;
   build-short = reasons.build-short;
   pairs-short = reasons.pairs-short;

@@ -3,7 +3,7 @@
 use mathlib.Core.Path.{_≡_, refl, sym, ap, _∙_}
 use mathlib.Core.Logic.{_↔_}
 use mathlib.Core.List.{List, [], _∷_}
-use Prim.Native.Nat.{ℕ, zero, suc}
+use Prim.Native.Nat.{ℕ, zero, suc, _≤_}
 use native.Mathlib.Omega.{arith}
 use lib.ListN.{getD}
 use Rattle.rules.specs.declared.Refusal.{Refusal}
@@ -34,8 +34,19 @@ first-verdict n says [] rest named never e = absurd (never (ap (λ (l : List ℕ
 first-verdict n says (zero ∷ vs) rest named never e = absurd (never (ap (λ (l : List ℕ). getD l 0 0) e ∙ named))
 first-verdict n says (suc m ∷ vs) rest named never e = e
 
--- a fault that no later check of a call has as its number, and the refusal that names it
-module _ {Fault : List ℕ → Type 0} {n : ℕ} (exact : Numbers (suc n) Fault) (place : ℕ) (why : Refusal) (says : said why ≡ suc n ∷ place ∷ []) where
+-- a fault to the three calls: each is refused with it exactly where it is the table's first
+pub record Refuses (why : Refusal) (First : List ℕ → Type 0) : Type 0 where
+  pub build : {table area after : List ℕ} {r : built.Built} → Builds table area r after → (r ≡ built.the-variants.Refused why) ↔ First table
+  pub pairs : {table list after : List ℕ} {r : paired.Paired} → Pairs table list r after → (r ≡ paired.the-variants.Refused why) ↔ First table
+  pub judge : {table order output after : List ℕ} {r : judged.Judged} → Judges table order output r after
+      → (r ≡ judged.the-variants.Refused why) ↔ First table
+
+-- the fault's number, which no check after the table's has, and the refusal that names it
+module _ {Fault : List ℕ → Type 0} {n : ℕ} (exact : Numbers (suc n) Fault) (apart : (later : ℕ) → 7 ≤ later → later ≤ 13 → suc n ≡ later → ⊥)
+    (place : ℕ) (why : Refusal) (says : said why ≡ suc n ∷ place ∷ []) where
+  above : suc n ≡ 0 → ⊥
+  above e = omega (arith, e)
+
   fault-at : (table rest : List ℕ) → NotSaid (suc n) rest → firstRefusal (verdict table) rest ≡ said why → FirstAt Fault table place
   fault-at table rest never e =
       first-at exact table place .0
@@ -44,74 +55,44 @@ module _ {Fault : List ℕ → Type 0} {n : ℕ} (exact : Numbers (suc n) Fault)
   at-fault : (table : List ℕ) → FirstAt Fault table place → said why ≡ verdict table
   at-fault table f = says ∙ sym (verdict-fault table n place .1 (first-at exact table place .1 f))
 
-  build-fault : {table area after : List ℕ} {r : built.Built} → (suc n ≡ 7 → ⊥) → Builds table area r after
+  build-refused : {table area after : List ℕ} {r : built.Built} → Builds table area r after
       → (r ≡ built.the-variants.Refused why) ↔ FirstAt Fault table place
   unfolding builtSaid buildSaid
-  build-fault {table} {area} other b = (
+  build-refused {table} {area} b = (
     λ e. fault-at table (roomSaid 7 (wordsNeeded table) area (wordsNeeded table))
-        (room-never (suc n) 7 (wordsNeeded table) area (wordsNeeded table) (λ q. omega (arith, q)) other) (sym (b .answer) ∙ ap builtSaid e),
+        (room-never (suc n) 7 (wordsNeeded table) area (wordsNeeded table) above (apart 7 (omega arith) (omega arith))) (sym (b .answer) ∙ ap builtSaid e),
     λ f. build-one b (refused-builds table area why (at-fault table f)) .0,
   )
 
-  pairs-fault : {table list after : List ℕ} {r : paired.Paired} → (suc n ≡ 10 → ⊥) → Pairs table list r after
+  pairs-refused : {table list after : List ℕ} {r : paired.Paired} → Pairs table list r after
       → (r ≡ paired.the-variants.Refused why) ↔ FirstAt Fault table place
   unfolding pairedSaid pairsSaid
-  pairs-fault {table} {list} other p = (
-    λ e. fault-at table _ (room-never (suc n) 10 _ list (pairCount table) (λ q. omega (arith, q)) other) (sym (p .answer) ∙ ap pairedSaid e),
+  pairs-refused {table} {list} p = (
+    λ e. fault-at table _ (room-never (suc n) 10 _ list (pairCount table) above (apart 10 (omega arith) (omega arith))) (sym (p .answer) ∙ ap pairedSaid e),
     λ f. pairs-one p (refused-pairs table list why (at-fault table f)) .0,
   )
 
-  judge-fault : {table order output after : List ℕ} {r : judged.Judged} → (suc n ≡ 11 → ⊥) → (suc n ≡ 12 → ⊥) → (suc n ≡ 13 → ⊥)
-      → Judges table order output r after → (r ≡ judged.the-variants.Refused why) ↔ FirstAt Fault table place
+  judge-refused : {table order output after : List ℕ} {r : judged.Judged} → Judges table order output r after
+      → (r ≡ judged.the-variants.Refused why) ↔ FirstAt Fault table place
   unfolding judgedSaid judgeSaid
-  judge-fault {table} {order} {output} no-order no-output no-move j =
-      let above : suc n ≡ 0 → ⊥ = λ q. omega (arith, q) in
+  judge-refused {table} {order} {output} j =
       let last = crossingSaid (rulesOf table) (crossing (rulesOf table) order) in
       let later = firstRefusal (outputSaid table output) last in (
         λ e. fault-at table (firstRefusal (orderSaid table order) later)
-            (first-never (suc n) (orderSaid table order) later (order-never (suc n) table order above no-order)
-            (first-never (suc n) (outputSaid table output) last (output-never (suc n) table output above no-output)
-            (crossing-never (suc n) (rulesOf table) (crossing (rulesOf table) order) above no-move)))
+            (first-never (suc n) (orderSaid table order) later (order-never (suc n) table order above (apart 11 (omega arith) (omega arith)))
+            (first-never (suc n) (outputSaid table output) last (output-never (suc n) table output above (apart 12 (omega arith) (omega arith)))
+            (crossing-never (suc n) (rulesOf table) (crossing (rulesOf table) order) above (apart 13 (omega arith) (omega arith)))))
             (sym (j .answer) ∙ ap judgedSaid e),
         λ f. judge-one j (refused-judges table order output why (at-fault table f)) .0,
       )
 
--- ---- refusal 5
+  refuses : Refuses why (λ table. FirstAt Fault table place)
+  refuses = record { build = build-refused; pairs = pairs-refused; judge = judge-refused }
 
-module _ (place : ℕ) where
-  unknown-said : said (UnknownAction place) ≡ 5 ∷ place ∷ []
-  unfolding said
-  unknown-said = refl
+pub unknown-refuses : (place : ℕ) → Refuses (UnknownAction place) (λ table. UnknownAt table place)
+unfolding said
+unknown-refuses place = refuses unknown-numbered (λ later low high e. omega (arith, e)) place (UnknownAction place) refl
 
-  pub build-unknown : {table area after : List ℕ} {r : built.Built} → Builds table area r after
-      → (r ≡ built.the-variants.Refused (UnknownAction place)) ↔ UnknownAt table place
-  build-unknown = build-fault unknown-numbered place (UnknownAction place) unknown-said (λ q. omega (arith, q))
-
-  pub pairs-unknown : {table list after : List ℕ} {r : paired.Paired} → Pairs table list r after
-      → (r ≡ paired.the-variants.Refused (UnknownAction place)) ↔ UnknownAt table place
-  pairs-unknown = pairs-fault unknown-numbered place (UnknownAction place) unknown-said (λ q. omega (arith, q))
-
-  pub judge-unknown : {table order output after : List ℕ} {r : judged.Judged} → Judges table order output r after
-      → (r ≡ judged.the-variants.Refused (UnknownAction place)) ↔ UnknownAt table place
-  judge-unknown =
-      judge-fault unknown-numbered place (UnknownAction place) unknown-said (λ q. omega (arith, q)) (λ q. omega (arith, q)) (λ q. omega (arith, q))
-
--- ---- refusal 14
-
-module _ (place : ℕ) where
-  port-said : said (StrayPort place) ≡ 14 ∷ place ∷ []
-  unfolding said
-  port-said = refl
-
-  pub build-stray-port : {table area after : List ℕ} {r : built.Built} → Builds table area r after
-      → (r ≡ built.the-variants.Refused (StrayPort place)) ↔ StrayPortAt table place
-  build-stray-port = build-fault port-numbered place (StrayPort place) port-said (λ q. omega (arith, q))
-
-  pub pairs-stray-port : {table list after : List ℕ} {r : paired.Paired} → Pairs table list r after
-      → (r ≡ paired.the-variants.Refused (StrayPort place)) ↔ StrayPortAt table place
-  pairs-stray-port = pairs-fault port-numbered place (StrayPort place) port-said (λ q. omega (arith, q))
-
-  pub judge-stray-port : {table order output after : List ℕ} {r : judged.Judged} → Judges table order output r after
-      → (r ≡ judged.the-variants.Refused (StrayPort place)) ↔ StrayPortAt table place
-  judge-stray-port =
-      judge-fault port-numbered place (StrayPort place) port-said (λ q. omega (arith, q)) (λ q. omega (arith, q)) (λ q. omega (arith, q))
+pub port-refuses : (place : ℕ) → Refuses (StrayPort place) (λ table. StrayPortAt table place)
+unfolding said
+port-refuses place = refuses port-numbered (λ later low high e. omega (arith, e)) place (StrayPort place) refl

@@ -42,13 +42,11 @@ module _ (place : ℕ) (bytes : List ℕ) where
     unfolding ruleSaid fault firstFailed ruleTests unknownAction isUnknown
     said-spare h = rw (short, clean, known, h)
 
-    pub said-port : spareBytes bytes ≡ false → strayPort bytes ≡ true → ruleSaid place bytes ≡ 14 ∷ place ∷ []
+    -- the last test decides
+    pub said-port : spareBytes bytes ≡ false → (stray : Bool) → strayPort bytes ≡ stray → ruleSaid place bytes ≡ cond stray (14 ∷ place ∷ []) (0 ∷ [])
     unfolding ruleSaid fault firstFailed ruleTests unknownAction isUnknown
-    said-port h k = rw (short, clean, known, h, k)
-
-    pub said-done : spareBytes bytes ≡ false → strayPort bytes ≡ false → ruleSaid place bytes ≡ 0 ∷ []
-    unfolding ruleSaid fault firstFailed ruleTests unknownAction isUnknown
-    said-done h k = rw (short, clean, known, h, k)
+    said-port h true k = rw (short, clean, known, h, k)
+    said-port h false k = rw (short, clean, known, h, k)
 
 -- ---- a faultless record passes each test
 

@@ -1,7 +1,8 @@
 -- `check_rule` meets its contract: at each way out, what the tests so far have said.
 -- Assumes nothing.
 use mathlib.Core.Path.{_≡_, sym, ap, _∙_}
-use mathlib.Core.Bool.{true, false, not}
+use mathlib.Core.Bool.{Bool, true, false, not, cond}
+use mathlib.Core.List.{[], _∷_}
 use borrow.Author.Needs.{needs}
 use borrow.Author.Tests.{ne-eqb, eq-eqb}
 use denote.Ref.{now}
@@ -9,8 +10,8 @@ use Rattle.bits.specs.Number.{numberAt}
 use Rattle.rules.specs.declared.Decoded.the-variants.{Known}
 use Rattle.rules.specs.Action.{actionIn}
 use Rattle.rules.specs.Refusal.{said, checkedSaid}
-use Rattle.rules.specs.Table.{longPrefix, strayBit, spareBytes}
-use Rattle.rules.proofs.TableLaws.{said-long, said-stray, said-unknown, said-spare, said-port, said-done, spare-number}
+use Rattle.rules.specs.Table.{longPrefix, strayBit, spareBytes, ruleSaid}
+use Rattle.rules.proofs.TableLaws.{said-long, said-stray, said-unknown, said-spare, said-port, spare-number}
 use Rattle.rules.proofs.check.check_rule.Statement.{statement}
 use Rattle.rules.proofs.check.check_rule.Tie as tie
 
@@ -74,27 +75,23 @@ spare-zero c =
 has-stray-port-requires : tie.Need-has-stray-port-requires
 has-stray-port-requires c κs = (search needs, short (c .before .before .before .before .before .before .before))
 
-returns-5 : tie.Need-returns-5
-unfolding checkedSaid said
-returns-5 c =
-    let e = c .before .before in
-    let t = e .before .before in
+-- the last test decides
+decided : (c : tie.After-has-stray-port) (stray : Bool) → c .has-stray-port .result ≡ stray →
+    let a = c .before .before .before .before .before .before .before .before .before .before .before .before .before .args in
+    ruleSaid (a .place) (now (a .rule)) ≡ cond stray (14 ∷ a .place ∷ []) (0 ∷ [])
+decided c stray e =
+    let t = c .before .before .before in
     let k = t .before .before .before .before .before in
     let a = k .before .before .before .before .before .args in
-    sym
-    (said-port (a .place) (now (a .rule)) _ (short k) (clean k) (known t) (spare-zero e)
-    (sym (c .before .has-stray-port .ensures) ∙ c .if4 .taken))
+    said-port (a .place) (now (a .rule)) _ (short k) (clean k) (known t) (spare-zero (c .before)) stray (sym (c .has-stray-port .ensures) ∙ e)
+
+returns-5 : tie.Need-returns-5
+unfolding checkedSaid said
+returns-5 c = sym (decided (c .before) true (c .if4 .taken))
 
 returns-6 : tie.Need-returns-6
 unfolding checkedSaid said
-returns-6 c =
-    let e = c .before .before in
-    let t = e .before .before in
-    let k = t .before .before .before .before .before in
-    let a = k .before .before .before .before .before .args in
-    sym
-    (said-done (a .place) (now (a .rule)) _ (short k) (clean k) (known t) (spare-zero e)
-    (sym (c .before .has-stray-port .ensures) ∙ c .if4 .left))
+returns-6 c = sym (decided (c .before) false (c .if4 .left))
 
 pub check-rule-spec : {M : Type 1} → statement M
 check-rule-spec =
