@@ -16,7 +16,7 @@ ghost use Rattle.rules.specs.Ports.{asksPort, hasPorts};
 ghost use Rattle.rules.specs.Refusal.{checkedSaid, firstRefusal};
 ghost use Rattle.rules.specs.Table.{recordSize, recordAt, longPrefix, strayBit, strayPort, ruleSaid, rulesSaid, verdict};
 
-// The fields of Q-1, by their number.
+// The two ports and the protocol, by their number among the fields.
 const SOURCE_PORT: usize = 2;
 
 const DESTINATION_PORT: usize = 3;
