@@ -28,10 +28,14 @@ two-digits e (suc zero) (suc zero) s t ha hb hs ht = same-eqb s t (1 * e + s) (1
 two-digits e (suc zero) (suc (suc b)) s t ha hb hs ht = absurd (omega arith)
 two-digits e (suc (suc a)) b s t ha hb hs ht = absurd (omega arith)
 
+-- a number of k + 1 bits: the top one, and the rest
+pub top-digit : (v k : ℕ) → v % 2 ^ suc k ≡ (v / 2 ^ k % 2) * 2 ^ k + v % 2 ^ k
+top-digit v k = ap (λ (n : ℕ). v % 2 ^ n) (omega arith) ∙ mod-pow-add v 1 k
+
 -- of the l + 1 bits above the k lowest: the top one, and the rest
 top-bits : (v l k : ℕ) → v / 2 ^ k % 2 ^ suc l ≡ (v / 2 ^ (l + k) % 2) * 2 ^ l + v / 2 ^ k % 2 ^ l
 top-bits v l k =
-    ap (λ (x : ℕ). v / 2 ^ k % 2 ^ x) (omega arith) ∙ mod-pow-add (v / 2 ^ k) 1 l
+    top-digit (v / 2 ^ k) l
     ∙ ap (λ (x : ℕ). (x % 2) * 2 ^ l + v / 2 ^ k % 2 ^ l) (shr-shr v k l ∙ ap (λ (x : ℕ). v / 2 ^ x) (add-comm k l))
 
 leads-top : (l k v x : ℕ) → leads (prefix (l + k) v l) (bits (l + k) x) ≡ eqb (v / 2 ^ k % 2 ^ l) (x / 2 ^ k % 2 ^ l)
@@ -68,7 +72,7 @@ some-bit zero v = ap not (sym (eq-eqb (v % 1) 0 (mod-one v)))
 some-bit (suc k) v =
     ap (λ t. eqb (v / 2 ^ k % 2) 1 || t) (some-bit k v)
     ∙ some-digit (2 ^ k) (v / 2 ^ k % 2) (v % 2 ^ k) (pow-pos k) (mod-lt (v / 2 ^ k) (zero-lt-suc 1))
-    ∙ ap (λ (n : ℕ). not (eqb n 0)) (sym (mod-pow-add v 1 k) ∙ ap (λ (n : ℕ). v % 2 ^ n) (omega arith))
+    ∙ ap (λ (n : ℕ). not (eqb n 0)) (sym (top-digit v k))
 
 pub stray-number : (w v l : ℕ) → l ≤ w → stray w v l ≡ not (eqb (v % 2 ^ (w - l)) 0)
 unfolding stray
