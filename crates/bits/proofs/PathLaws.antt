@@ -14,19 +14,19 @@ use lib.Pow.{pow-pos, shr-shr, mod-pow-add, shr-mod}
 use borrow.Author.Tests.{eq-eqb, ne-eqb}
 use Rattle.bits.specs.Tests.{any}
 use Rattle.bits.specs.Path.{Path, bits, prefix, leads, stray, common, bitOf}
-use Rattle.bits.proofs.TestLaws.{same-eqb, and-trues, and-both}
+use Rattle.bits.proofs.TestLaws.{same-eqb, and-trues, and-both, on-bits}
 
 -- ---- a prefix leads a value
 
 -- numbers of two digits, the upper a bit and the lower below e
 two-digits : (e a b s t : ℕ) → a < 2 → b < 2 → s < e → t < e → (Bool·beq (eqb a 1) (eqb b 1) && eqb s t) ≡ eqb (a * e + s) (b * e + t)
-two-digits e zero zero s t ha hb hs ht = same-eqb s t (0 * e + s) (0 * e + t) (λ q. omega arith) (λ q. omega arith)
-two-digits e zero (suc zero) s t ha hb hs ht = sym (ne-eqb (0 * e + s) (1 * e + t) (λ q. omega arith))
-two-digits e zero (suc (suc b)) s t ha hb hs ht = absurd (omega arith)
-two-digits e (suc zero) zero s t ha hb hs ht = sym (ne-eqb (1 * e + s) (0 * e + t) (λ q. omega arith))
-two-digits e (suc zero) (suc zero) s t ha hb hs ht = same-eqb s t (1 * e + s) (1 * e + t) (λ q. omega arith) (λ q. omega arith)
-two-digits e (suc zero) (suc (suc b)) s t ha hb hs ht = absurd (omega arith)
-two-digits e (suc (suc a)) b s t ha hb hs ht = absurd (omega arith)
+two-digits e a b s t ha hb hs ht =
+    on-bits (λ (a b : ℕ). (Bool·beq (eqb a 1) (eqb b 1) && eqb s t) ≡ eqb (a * e + s) (b * e + t))
+    (same-eqb s t (0 * e + s) (0 * e + t) (λ q. omega arith) (λ q. omega arith))
+    (sym (ne-eqb (0 * e + s) (1 * e + t) (λ q. omega arith)))
+    (sym (ne-eqb (1 * e + s) (0 * e + t) (λ q. omega arith)))
+    (same-eqb s t (1 * e + s) (1 * e + t) (λ q. omega arith) (λ q. omega arith))
+    a b ha hb
 
 -- a number of k + 1 bits: the top one, and the rest
 pub top-digit : (v k : ℕ) → v % 2 ^ suc k ≡ (v / 2 ^ k % 2) * 2 ^ k + v % 2 ^ k

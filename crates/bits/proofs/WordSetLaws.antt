@@ -13,6 +13,7 @@ use lib.ListN.{length, set, replicate, getD-replicate}
 use lib.Pow.{pow-pos}
 use Rattle.bits.specs.Tests.{all}
 use Rattle.bits.specs.Word.{digit, wordOf, bit, andAll}
+use Rattle.bits.proofs.TestLaws.{on-bits}
 use Rattle.bits.proofs.WordLaws.{word-half, word-odd, bit-zero, bit-suc, bit-word}
 
 -- ---- words that are intersected
@@ -45,13 +46,7 @@ mask-word zero = refl
 mask-word (suc s) = ap (λ (x : ℕ). x - 1) (pow-suc 2 s) ∙ dbl-pred (pow-pos s) ∙ ap (λ (x : ℕ). x * 2 + 1) (mask-word s)
 
 min-bit : (x y : ℕ) → x < 2 → y < 2 → eqb (min x y) 1 ≡ (eqb x 1 && eqb y 1)
-min-bit zero zero hx hy = refl
-min-bit zero (suc zero) hx hy = refl
-min-bit zero (suc (suc y)) hx hy = absurd (omega arith)
-min-bit (suc zero) zero hx hy = refl
-min-bit (suc zero) (suc zero) hx hy = refl
-min-bit (suc zero) (suc (suc y)) hx hy = absurd (omega arith)
-min-bit (suc (suc x)) y hx hy = absurd (omega arith)
+min-bit = on-bits (λ (x y : ℕ). eqb (min x y) 1 ≡ (eqb x 1 && eqb y 1)) refl refl refl refl
 
 pub bit-and : (b x y : ℕ) → bit (bitAnd x y) b ≡ (bit x b && bit y b)
 bit-and zero x y =
