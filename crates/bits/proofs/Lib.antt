@@ -12,6 +12,7 @@ pub mod ApartLaws
 pub mod NumberLaws
 pub mod PathLaws
 pub mod SamePathLaws
+pub mod CommonLaws
 pub mod DigitLaws
 pub mod MaskLaws
 pub mod WordLaws

@@ -13,7 +13,7 @@ use lib.Seq.{getD-take}
 use lib.Pow.{pow-pos, shr-shr, mod-pow-add, shr-mod}
 use borrow.Author.Tests.{eq-eqb, ne-eqb}
 use Rattle.bits.specs.Tests.{any}
-use Rattle.bits.specs.Path.{Path, bits, prefix, leads, stray, common, bitOf}
+use Rattle.bits.specs.Path.{Path, bits, prefix, leads, stray, bitOf}
 use Rattle.bits.proofs.TestLaws.{same-eqb, and-trues, and-both, on-bits}
 
 -- ---- a prefix leads a value
@@ -92,12 +92,6 @@ pub beq-self : (a : Bool) → Bool·beq a a ≡ true
 beq-self true = refl
 beq-self false = refl
 
-beq-apart : (a b : Bool) → (a ≡ b → ⊥) → Bool·beq a b ≡ false
-beq-apart true true n = absurd (n refl)
-beq-apart true false n = refl
-beq-apart false true n = refl
-beq-apart false false n = absurd (n refl)
-
 -- what leads a leading part leads the whole
 pub leads-trans : (p q r : Path) → leads p q ≡ true → leads q r ≡ true → leads p r ≡ true
 unfolding leads
@@ -136,20 +130,7 @@ leads-prefix (suc w) v (suc l) x (suc m) h =
     ∙ and-between same (leb l m) (leads (take l (bits w v)) (bits w x))
     ∙ rw leb·suc-suc
 
--- ---- what two prefixes have in common
-
--- r is the number: the first r bits are the same, and where both go on the next two differ
-common-is : (p q : Path) (r : ℕ) → r ≤ length p → r ≤ length q → ((j : ℕ) → j < r → getD p j false ≡ getD q j false)
-    → (r < length p → r < length q → getD p r false ≡ getD q r false → ⊥) → r ≡ common p q
-unfolding common
-common-is [] q zero hp hq same differ = refl
-common-is [] q (suc r) hp hq same differ = absurd (omega arith)
-common-is (a ∷ p) [] zero hp hq same differ = refl
-common-is (a ∷ p) [] (suc r) hp hq same differ = absurd (omega arith)
-common-is (a ∷ p) (b ∷ q) zero hp hq same differ = rw (common, beq-apart a b (differ (omega arith) (omega arith)))
-common-is (a ∷ p) (b ∷ q) (suc r) hp hq same differ =
-    rw (common, same zero (omega arith), beq-self b)
-    (ap suc (common-is p q r (omega arith) (omega arith) (λ j h. same (suc j) (omega arith)) (λ x y e. differ (omega arith) (omega arith) e)))
+-- ---- a prefix bit by bit
 
 bits-at : (w v j : ℕ) → j < w → getD (bits w v) j false ≡ eqb (bitOf w v j) 1
 unfolding bits
@@ -169,23 +150,3 @@ length-prefix w v l h = length-take l (bits w v) ∙ omega (arith, length-bits w
 pub prefix-at : (w v l j : ℕ) → j < l → l ≤ w → getD (prefix w v l) j false ≡ eqb (bitOf w v j) 1
 unfolding prefix
 prefix-at w v l j h k = getD-take l (bits w v) j false h ∙ bits-at w v j (omega arith)
-
--- a bit is 0 or 1, so that two tests for 1 that agree are two equal bits
-bit-same : (x y : ℕ) → x < 2 → y < 2 → eqb x 1 ≡ eqb y 1 → x ≡ y
-bit-same zero zero hx hy e = refl
-bit-same zero (suc zero) hx hy e = absurd (false≢true e)
-bit-same zero (suc (suc y)) hx hy e = absurd (omega arith)
-bit-same (suc zero) zero hx hy e = absurd (false≢true (sym e))
-bit-same (suc zero) (suc zero) hx hy e = refl
-bit-same (suc zero) (suc (suc y)) hx hy e = absurd (omega arith)
-bit-same (suc (suc x)) y hx hy e = absurd (omega arith)
-
-pub common-bits : (w a la b lb r : ℕ) → la ≤ w → lb ≤ w → r ≤ la → r ≤ lb → ((j : ℕ) → j < r → bitOf w a j ≡ bitOf w b j)
-    → (r < la → r < lb → bitOf w a r ≡ bitOf w b r → ⊥) → r ≡ common (prefix w a la) (prefix w b lb)
-common-bits w a la b lb r ka kb ha hb same differ =
-    common-is (prefix w a la) (prefix w b lb) r (rw (length-prefix w a la ka) ha) (rw (length-prefix w b lb kb) hb)
-    (λ j h. prefix-at w a la j (omega arith) ka ∙ ap (λ (n : ℕ). eqb n 1) (same j h) ∙ sym (prefix-at w b lb j (omega arith) kb))
-    (λ p q e.
-    let p′ : r < la = rw (length-prefix w a la ka) at p in
-    let q′ : r < lb = rw (length-prefix w b lb kb) at q in
-    differ p′ q′ (bit-same (bitOf w a r) (bitOf w b r) (omega arith) (omega arith) (sym (prefix-at w a la r p′ ka) ∙ e ∙ prefix-at w b lb r q′ kb)))

@@ -3,6 +3,7 @@
 // bits of a u32, and its prefix of `len` bits is the top ones of those.
 ghost use mathlib.Core.Path.{_≡_};
 ghost use Prim.Native.Nat.{_+_, _*_, _^_, _≤_, _<_, min};
+ghost use lib.Bits.{bitXor};
 ghost use lib.ListN.{length};
 ghost use Rattle.bits.specs.Number.{numberAt};
 ghost use Rattle.bits.specs.Path.{bits, prefix, leads, stray, cut, bitOf, common};
@@ -109,16 +110,28 @@ fn least(a: usize, b: usize) -> usize
     if a < b { a } else { b }
 }
 
-// The length of the longest leading part that two prefixes have in common.
+// The word of bits in which two values differ. Their difference would not do: 8 less 7 is 1, and
+// of four bits 8 and 7 have none in common.
+fn differing(a: u32, b: u32) -> u32
+    ensures { λ r. ⌜ r ≡ bitXor a b ⌝ }
+{
+    a ^ b
+}
+
+// The number of leading bits that two values have in common: the leading zeros of the bits in which
+// they differ, less those that stand above the width.
+fn same_leading(a: u32, b: u32, width: usize) -> usize
+    requires { ⌜ (width ≤ 32) × (a < 2 ^ width) × (b < 2 ^ width) ⌝ }
+    ensures { λ r. ⌜ r ≡ common (bits width a) (bits width b) ⌝ }
+{
+    u32::leading_zeros(differing(a, b)) as usize - (32 - width)
+}
+
+// The length of the longest leading part that two prefixes have in common: never more than either
+// length.
 pub fn common_leading(a: u32, len_a: usize, b: u32, len_b: usize, width: usize) -> usize
     requires { ⌜ («len_a» ≤ width) × («len_b» ≤ width) × (width ≤ 32) × (a < 2 ^ width) × (b < 2 ^ width) ⌝ }
     ensures { λ r. ⌜ r ≡ common (prefix width a «len_a») (prefix width b «len_b») ⌝ }
 {
-    let most = least(len_a, len_b);
-    for n in 0..most {
-        if bit_of(a, width, n) != bit_of(b, width, n) {
-            return n;
-        }
-    }
-    most
+    least(same_leading(a, b, width), least(len_a, len_b))
 }
