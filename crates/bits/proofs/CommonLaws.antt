@@ -5,7 +5,7 @@ use mathlib.Core.Path.{_≡_, refl, sym, ap, ap₂, _∙_}
 use mathlib.Core.Bool.{Bool, true, false, Bool·beq}
 use mathlib.Core.List.{[], _∷_}
 use Prim.Native.Nat.{ℕ, zero, suc, _+_, _-_, _*_, _/_, _%_, _^_, _≤_, _<_, min}
-use native.Mathlib.Nat.{mod-lt, mod-eq-of-lt, pow-suc, zero-lt-suc}
+use native.Mathlib.Nat.{mod-lt, mod-eq-of-lt, pow-suc}
 use native.Mathlib.Omega.{arith}
 use lib.Bits.{bitXor, xor-lt, xor-shr, xor-mod}
 use lib.Count.{leadingZeros, leading-length, leading-unique}
@@ -48,12 +48,10 @@ unfolding leadingZeros bits common
 common-low zero a b = refl
 common-low (suc w) a b =
     let x = bitXor a b in
-    let i = a / 2 ^ w % 2 in
-    let j = b / 2 ^ w % 2 in
     ap (leadingZeros (suc w)) (top-digit x w)
-    ∙ zeros-top w (x / 2 ^ w % 2) (x % 2 ^ w) (mod-lt (x / 2 ^ w) (zero-lt-suc 1)) (mod-lt x (pow-pos w))
+    ∙ zeros-top w (x / 2 ^ w % 2) (x % 2 ^ w) (omega arith) (mod-lt x (pow-pos w))
     ∙ ap₂ (λ (t : Bool) (n : ℕ). elim t [ true ↦ suc n | false ↦ 0 ])
-    (ap (λ (d : ℕ). eqb d 0) (xor-bit a b w) ∙ same-bit i j (mod-lt (a / 2 ^ w) (zero-lt-suc 1)) (mod-lt (b / 2 ^ w) (zero-lt-suc 1)))
+    (ap (λ (d : ℕ). eqb d 0) (xor-bit a b w) ∙ same-bit (a / 2 ^ w % 2) (b / 2 ^ w % 2) (omega arith) (omega arith))
     (common-low w a b)
 
 -- in a word of n digits, two values of w bits: the zeros above the width, and the leading bits that are the same

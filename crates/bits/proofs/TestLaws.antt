@@ -63,15 +63,14 @@ refuted false no-way = refl
 pub three : (a b : ℕ) → (a < b) ⊎ (a ≡ b) ⊎ (b < a)
 three a b = ⊎-elim (λ h. inl h) (λ h. inr (⊎-elim (λ (e : b ≡ a). inl (sym e)) (λ g. inr g) (equal b a h))) (less a b)
 
--- what holds of 0 and 1, each way, holds of any two bits
+-- what holds of 0 and 1 holds of a bit, and each way of two
+on-bit : (P : ℕ → Type 0) → P 0 → P 1 → (a : ℕ) → a < 2 → P a
+on-bit P p q zero h = p
+on-bit P p q (suc zero) h = q
+on-bit P p q (suc (suc a)) h = absurd (omega arith)
+
 pub on-bits : (P : ℕ → ℕ → Type 0) → P 0 0 → P 0 1 → P 1 0 → P 1 1 → (a b : ℕ) → a < 2 → b < 2 → P a b
-on-bits P p q r s zero zero ha hb = p
-on-bits P p q r s zero (suc zero) ha hb = q
-on-bits P p q r s zero (suc (suc b)) ha hb = absurd (omega arith)
-on-bits P p q r s (suc zero) zero ha hb = r
-on-bits P p q r s (suc zero) (suc zero) ha hb = s
-on-bits P p q r s (suc zero) (suc (suc b)) ha hb = absurd (omega arith)
-on-bits P p q r s (suc (suc a)) b ha hb = absurd (omega arith)
+on-bits P p q r s a b ha hb = on-bit (λ (x : ℕ). P x b) (on-bit (P 0) p q b hb) (on-bit (P 1) r s b hb) a ha
 
 -- ---- what is left of a list, from a place on
 
