@@ -54,11 +54,11 @@ nonzero-word (false ∷ l) = ap not (same-eqb (wordOf l * 2 + 0) 0 (wordOf l) 0 
 
 -- ---- bit by bit
 
-pub bit-zero : (n : ℕ) → bit n 0 ≡ eqb (n % 2) 1
+bit-zero : (n : ℕ) → bit n 0 ≡ eqb (n % 2) 1
 unfolding bit
 bit-zero n = ap (λ (x : ℕ). eqb (x % 2) 1) (div-one n)
 
-pub bit-suc : (n b : ℕ) → bit n (suc b) ≡ bit (n / 2) b
+bit-suc : (n b : ℕ) → bit n (suc b) ≡ bit (n / 2) b
 unfolding bit
 bit-suc n b =
     ap (λ (x : ℕ). eqb (n / x % 2) 1) (pow-suc 2 b ∙ mul-comm (2 ^ b) 2)

@@ -4,17 +4,17 @@ use mathlib.Core.Path.{_≡_, refl, sym, ap, ap₂, _∙_}
 use mathlib.Core.Bool.{Bool, true, false, _&&_, _||_}
 use mathlib.Core.List.{List, [], _∷_, map}
 use Prim.Native.Nat.{ℕ, zero, suc, _+_, _-_, _*_, _/_, _%_, _^_, _<_, min, max}
-use native.Mathlib.Nat.{mul-div-cancel, mul-mod-left, max-zero, pow-suc, mod-lt, zero-lt-suc, le-of-suc-le-suc}
+use native.Mathlib.Nat.{mul-div-cancel, mul-mod-left, max-zero, pow-suc, zero-lt-suc, le-of-suc-le-suc}
 use native.Mathlib.Omega.{arith}
-use lib.Arith.{digits-div, digits-mod, dbl-pred}
-use lib.Bits.{bitAnd, bitOr, and-step, and-zero-r, and-le-r, or-step, or-zero-r}
+use lib.Arith.{dbl-pred}
+use lib.Bits.{bitAnd, bitOr, and-step, and-zero-r, and-le-r, and-shr, and-mod, or-step, or-zero-r}
 use lib.Dec.{eqb}
 use lib.ListN.{length, set, replicate, getD-replicate}
 use lib.Pow.{pow-pos}
 use Rattle.bits.specs.Tests.{all}
 use Rattle.bits.specs.Word.{digit, wordOf, bit, andAll}
 use Rattle.bits.proofs.TestLaws.{on-bits}
-use Rattle.bits.proofs.WordLaws.{word-half, word-odd, bit-zero, bit-suc, bit-word}
+use Rattle.bits.proofs.WordLaws.{word-half, word-odd, bit-word}
 
 -- ---- words that are intersected
 
@@ -45,26 +45,15 @@ unfolding wordOf
 mask-word zero = refl
 mask-word (suc s) = ap (λ (x : ℕ). x - 1) (pow-suc 2 s) ∙ dbl-pred (pow-pos s) ∙ ap (λ (x : ℕ). x * 2 + 1) (mask-word s)
 
-min-bit : (x y : ℕ) → x < 2 → y < 2 → eqb (min x y) 1 ≡ (eqb x 1 && eqb y 1)
-min-bit = on-bits (λ (x y : ℕ). eqb (min x y) 1 ≡ (eqb x 1 && eqb y 1)) refl refl refl refl
+both-set : (i j : ℕ) → i < 2 → j < 2 → eqb (bitAnd i j) 1 ≡ (eqb i 1 && eqb j 1)
+both-set = on-bits (λ (i j : ℕ). eqb (bitAnd i j) 1 ≡ (eqb i 1 && eqb j 1)) refl refl refl refl
 
 pub bit-and : (b x y : ℕ) → bit (bitAnd x y) b ≡ (bit x b && bit y b)
-bit-and zero x y =
-    let hx = mod-lt x (zero-lt-suc 1) in
-    let hy = mod-lt y (zero-lt-suc 1) in
-    bit-zero (bitAnd x y)
-    ∙ ap (λ (z : ℕ). eqb (z % 2) 1) (and-step x y)
-    ∙ ap (λ (z : ℕ). eqb z 1) (digits-mod (bitAnd (x / 2) (y / 2)) (omega arith))
-    ∙ min-bit (x % 2) (y % 2) hx hy
-    ∙ ap₂ (λ p q. p && q) (sym (bit-zero x)) (sym (bit-zero y))
-bit-and (suc b) x y =
-    let hx = mod-lt x (zero-lt-suc 1) in
-    let hy = mod-lt y (zero-lt-suc 1) in
-    bit-suc (bitAnd x y) b
-    ∙ ap (λ (z : ℕ). bit (z / 2) b) (and-step x y)
-    ∙ ap (λ (z : ℕ). bit z b) (digits-div (bitAnd (x / 2) (y / 2)) (omega arith))
-    ∙ bit-and b (x / 2) (y / 2)
-    ∙ ap₂ (λ p q. p && q) (sym (bit-suc x b)) (sym (bit-suc y b))
+unfolding bit
+bit-and b x y =
+    ap (λ (z : ℕ). eqb (z % 2) 1) (and-shr x y b)
+    ∙ ap (λ (z : ℕ). eqb z 1) (and-mod (x / 2 ^ b) (y / 2 ^ b) 1)
+    ∙ both-set (x / 2 ^ b % 2) (y / 2 ^ b % 2) (omega arith) (omega arith)
 
 -- a place of the intersection is set exactly when it is set in each word
 pub bit-all : (size b : ℕ) → b < size → (ws : List ℕ) → bit (andAll size ws) b ≡ all (λ w. bit w b) ws
