@@ -1,5 +1,7 @@
 // What the build does to the words of a lent area, one pass at a time. A record is 11 words: child
 // for bit 0, child for bit 1, aggregate, eight vector words. Nothing here knows a rule table.
+#![tactic(auto)]
+
 mod grow;
 mod hand;
 mod sums;

@@ -1,5 +1,7 @@
 // How long the build takes at 32, 64, 128 and 256 rules. The words needed go to standard output, the
 // microseconds that 100 builds took to standard error.
+#![tactic(auto)]
+
 use desk::Built;
 use libc::{STDERR_FILENO, STDOUT_FILENO};
 use samples::Pattern;

@@ -1,5 +1,7 @@
 // How long 1,000,000 lookups take over the index of 256 rules. The number of matches goes to standard
 // output, the microseconds to standard error.
+#![tactic(auto)]
+
 use desk::Built;
 use libc::{STDERR_FILENO, STDOUT_FILENO};
 use lookup::{Looked, Outcome};

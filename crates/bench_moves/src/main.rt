@@ -1,5 +1,7 @@
 // How long the pair list and the judgement of moves take at 64, 128 and 256 rules. What they answer
 // goes to standard output, the microseconds that 20 calls of each took to standard error.
+#![tactic(auto)]
+
 ghost use Rattle.std.specs.Prelude.{◌≡◌, length};
 
 use desk::{Judged, Paired};

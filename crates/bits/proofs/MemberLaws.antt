@@ -15,8 +15,8 @@ module _ {A : Type 0} (d : A) where
   place_member (x ∷ xs) (suc k) h = Memᴰ.tail (place_member xs k (omega arith))
 
   pub member_place : {x : A} (xs : List A) → Memᴰ x xs → (k : ℕ) × (k < length xs) × (get_or xs k d ≡ x)
-  member_place [] m = absurd (Memᴰ.not-nil m)
+  member_place {x} [] m = absurd (Memᴰ.not-nil m)
   member_place {x} (y ∷ ys) m =
       ⊎_elim (λ (e : x ≡ y). (zero, omega arith, sym e))
-      (λ n. let later = member_place ys n in (suc later.0, omega (arith, later.1), later.2))
+      (λ n. let later = member_place {x = x} ys n in (suc later.0, omega (arith, later.1), later.2))
       (Memᴰ.cases_cons m)

@@ -1,6 +1,8 @@
 // Numbers and words: big-endian reads, the table of masks, and the tests of leading parts.
 // Every function serves the widths 8, 16 and 32 alike: a value of `width` bits stands in the low
 // bits of a u32, and its prefix of `len` bits is the top ones of those.
+#![tactic(auto)]
+
 ghost use Rattle.std.specs.Prelude.{◌≡◌, ◌+◌, ◌*◌, ◌^◌, ◌≤◌, ◌<◌, min, length};
 ghost use Rattle.std.specs.Int.Bits.{bit_xor};
 ghost use Rattle.bits.specs.Number.{number_at};

@@ -1,5 +1,7 @@
 // The rule desk: its public calls, each with its statement, none with a `requires`.
 // specs/ says what each answers, for any bytes at all; specs/Promises.antt is the page of what that promises.
+#![tactic(auto)]
+
 ghost use Rattle.desk.specs.BuildCall.{Builds};
 ghost use Rattle.desk.specs.JudgeCall.{Judges};
 ghost use Rattle.desk.specs.LookCall.{Looks};

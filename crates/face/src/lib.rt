@@ -1,5 +1,7 @@
 // The desk's calls for C and Rust: one exported function for each call of `desk`, none with a `requires`.
 // An answer goes out by value, in 01's own numbers, so that a refusal writes nothing at all.
+#![tactic(auto)]
+
 mod answers;
 
 ghost use Rattle.std.specs.Prelude.{◌≡◌};

@@ -1,5 +1,7 @@
 // The index over a rule table: how many words it needs, and writing them. Both ask for an accepted
 // table; `desk` refuses any other before it calls.
+#![tactic(auto)]
+
 mod sizing;
 mod writing;
 

@@ -1,5 +1,7 @@
 // Looking up a header over any area at all: walk in each field, gather the vectors, try the blocks,
 // and say what was found. The area is trusted in nothing, and the table is read at the winner alone.
+#![tactic(auto)]
+
 mod gather;
 mod scan;
 mod steps;

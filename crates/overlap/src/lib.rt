@@ -1,4 +1,6 @@
 // Two rules against each other, no index: pairs that share a header, proposed orders, and the judgement of a move.
+#![tactic(auto)]
+
 mod compare;
 mod judge;
 mod moves;

@@ -1,6 +1,8 @@
 // The desk program: the table from the file `rules.bin`, headers from standard input, one line a header to
 // standard output (01: "The desk program"). `report::report` makes the whole text and is proved to make the one
 // that specs/Program.antt says; the rest reads and writes.
+#![tactic(auto)]
+
 mod lines;
 mod read;
 mod report;

@@ -1,5 +1,7 @@
 // What the bytes of a rule table and of a header mean: one rule, a whole table, a header.
 // Nothing here knows an index; bytes are judged once, and everything above speaks of rules.
+#![tactic(auto)]
+
 mod check;
 mod fields;
 mod headers;

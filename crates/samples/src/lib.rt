@@ -1,4 +1,6 @@
 // The rule tables, orders and areas that several programs run the desk on.
+#![tactic(auto)]
+
 mod areas;
 mod orders;
 mod patterns;

@@ -1,4 +1,6 @@
 // What several programs print, and how they read the clock.
+#![tactic(auto)]
+
 mod printing;
 mod time;
 

@@ -1,5 +1,7 @@
 // Runs the build on no rule, on the six rules and on 256 rules, and prints what it answers and what
 // it leaves in an area that was full of ones.
+#![tactic(auto)]
+
 use desk::Built;
 use libc::STDOUT_FILENO;
 use samples::Pattern;

@@ -1,5 +1,7 @@
 // Looks up headers over the index of the six rules: whole, cut short and damaged, with wrong headers
 // and tables, and with a table that was changed after the build. Prints what is answered.
+#![tactic(auto)]
+
 use desk::Built;
 use lookup::{Answer, Looked, Outcome};
 use rules::Action;

@@ -1,5 +1,7 @@
 // Runs the pair list and the judgement of moves on the six rules, on no rule and on 256 rules, and
 // prints what they answer and what they leave.
+#![tactic(auto)]
+
 use desk::{Judged, Paired};
 use rules::{Crossing, Refusal};
 use samples::Pattern;

@@ -1,4 +1,6 @@
 // Runs the record rules on small tables and headers and prints what they answer, a line each.
+#![tactic(auto)]
+
 use rules::{Checked, Heard};
 use samples::put_byte;
 use trial::{number, refused, say};
