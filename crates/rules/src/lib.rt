@@ -20,21 +20,21 @@ pub const MOST_RULES: usize = 256;
 
 pub const FIELDS: usize = 5;
 
-#[derive(Drop)]
+#[derive(Clone, Copy)]
 pub enum Action {
     Hold,
     Deliver(u8),
 }
 
 // What a record's action bytes give.
-#[derive(Drop)]
+#[derive(Clone, Copy)]
 pub enum Decoded {
     Known(Action),
     Unknown,
 }
 
 // The five values of a packet header.
-#[derive(Drop)]
+#[derive(Clone, Copy)]
 pub struct Header {
     pub source: u32,
     pub destination: u32,
@@ -44,7 +44,7 @@ pub struct Header {
 }
 
 // Two rules, by their old places, that a move may not carry past each other, and their lowest shared header.
-#[derive(Drop)]
+#[derive(Clone, Copy)]
 pub struct Crossing {
     pub lower: usize,
     pub higher: usize,
@@ -52,7 +52,7 @@ pub struct Crossing {
 }
 
 // Every refusal of the desk, in the order of its numbers, from 1. specs/Refusal.antt has the numbers and what each carries.
-#[derive(Drop)]
+#[derive(Clone, Copy)]
 pub enum Refusal {
     RaggedTable,
     TooManyRules,
@@ -70,13 +70,13 @@ pub enum Refusal {
     StrayPort(usize),
 }
 
-#[derive(Drop)]
+#[derive(Clone, Copy)]
 pub enum Checked {
     Accepted,
     Refused(Refusal),
 }
 
-#[derive(Drop)]
+#[derive(Clone, Copy)]
 pub enum Heard {
     Values(Header),
     Refused(Refusal),

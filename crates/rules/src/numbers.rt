@@ -5,13 +5,14 @@ ghost use Rattle.rules.specs.Refusal.{number_of, place_of};
 use crate::Refusal;
 
 // The place that a refusal carries, if it carries one.
-#[derive(Drop)]
+#[derive(Clone, Copy)]
 pub enum Place {
     At(usize),
     Nowhere,
 }
 
 // The refusal's number, from 1.
+#[tactic(auto, unfolding(crate::specs::Refusal::said, crate::specs::Refusal::number_of))]
 pub fn number_of(refusal: Refusal) -> u64
     ensures { result ≡ number_of refusal }
 {
@@ -34,6 +35,7 @@ pub fn number_of(refusal: Refusal) -> u64
 }
 
 // The place that a refusal carries: those of one rule do.
+#[tactic(auto, unfolding(crate::specs::Refusal::said, crate::specs::Refusal::place_of))]
 pub fn place_of(refusal: Refusal) -> Place
     ensures { result ≡ place_of refusal }
 {

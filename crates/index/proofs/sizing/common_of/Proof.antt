@@ -15,11 +15,11 @@ common-leading-requires c κs =
     let f = start.args.f in
     let fits-a = length_fits start.args.a.now start.requires.1.faultless f start.requires.0 in
     let fits-b = length_fits start.args.b.now start.requires.2.faultless f start.requires.0 in
-    let width = c.width_of_lem.ensures.0 in (
+    let width = c.width_of.ensures.0 in (
       omega (arith, c.before.before.before.length-of.ensures),
       omega (arith, c.before.length-of2.ensures),
-      c.width_of_lem.ensures.1,
-      rw width c.before.before.before.before.value_of_lem.ensures.1,
+      c.width_of.ensures.1,
+      rw width c.before.before.before.before.value_of.ensures.1,
       rw width c.before.before.value-of2.ensures.1,
     )
 
@@ -30,8 +30,8 @@ returns c =
     c.common-leading.ensures
     ∙ (λ i.
     common
-    (prefix (k.width_of_lem.ensures.0 i) (k.before.before.before.before.value_of_lem.ensures.0 i) (k.before.before.before.length-of.ensures i))
-    (prefix (k.width_of_lem.ensures.0 i) (k.before.before.value-of2.ensures.0 i) (k.before.length-of2.ensures i)))
+    (prefix (k.width_of.ensures.0 i) (k.before.before.before.before.value_of.ensures.0 i) (k.before.before.before.length-of.ensures i))
+    (prefix (k.width_of.ensures.0 i) (k.before.before.value-of2.ensures.0 i) (k.before.length-of2.ensures i)))
 
 pub common_of_spec : {M : Type 1} → statement M
 common_of_spec =

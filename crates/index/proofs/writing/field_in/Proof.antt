@@ -19,7 +19,7 @@ insert-requires c κs =
       (omega arith, omega arith, omega arith),
       (
         field_start (mk start.args.area.now 0 start.args.next) f start.requires.0.0 start.requires.1.0,
-        rw (c.before.before.width_of_lem.ensures.0, c.before.before.before.value_of_lem.ensures.0, c.before.length-of.ensures)
+        rw (c.before.before.width_of.ensures.0, c.before.before.before.value_of.ensures.0, c.before.length-of.ensures)
             (field_room _ _ _ _ _ start.requires.1.1),
       ),
     )
@@ -29,7 +29,7 @@ unfolding field_in
 returns c =
     let put = c.before.before in
     let e =
-    rw (put.before.before.before.width_of_lem.ensures.0, put.before.before.before.before.value_of_lem.ensures.0, put.before.before.length-of.ensures)
+    rw (put.before.before.before.width_of.ensures.0, put.before.before.before.before.value_of.ensures.0, put.before.before.length-of.ensures)
     at put.insert.ensures in
     rw (e.0, e.1)
 

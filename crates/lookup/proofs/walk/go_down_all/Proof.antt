@@ -43,7 +43,7 @@ walked c =
     let k = c.before.before.before.before in
     let area = k.before.before.before.args.area.now in
     c.go-down.ensures
-    ∙ ap₂ (λ (w v : ℕ). walk_from desk_shape area k.loop.f (bits w v)) c.before.width_of_lem.ensures.0 c.before.before.value_of_lem.ensures.0
+    ∙ ap₂ (λ (w v : ℕ). walk_from desk_shape area k.loop.f (bits w v)) c.before.width_of.ensures.0 c.before.before.value_of.ensures.0
 
 returns : tie.Need-returns invariant-loop decreases-loop
 unfolding reached_all reached
@@ -70,7 +70,7 @@ loop-again c =
     let header = a.header.now in
     let n = c.before.row.given.0.0 in
     let reaches : reached d.go-down.result ≡ some n = ap reached c.before.row.given.1 in
-    let path = bits d.before.width_of_lem.result d.before.before.value_of_lem.result in
+    let path = bits d.before.width_of.result d.before.before.value_of.result in
     let met : walk_from desk_shape area l.f path ≡ some n = ◌∙◌ {a = walk_from desk_shape area l.f path} (sym d.go-down.ensures) reaches in
     let inside : n < length area / record_words = walk_inside area path l.f n (omega arith) met in
     let more = ap (λ (j : ℕ). take j (set l.records l.f n)) (add-one l.f) ∙ take-suc-set l.records l.f n (omega arith) in (

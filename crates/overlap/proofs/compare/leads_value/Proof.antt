@@ -12,20 +12,20 @@ is-leading-requires : tie.Need-is-leading-requires
 is-leading-requires c κs =
     let k = c.before.before.before.before.before in
     let a = k.before.args.a.now in
-    let w = c.width_of_lem.ensures.0 in
+    let w = c.width_of.ensures.0 in
     let fits = length_fits a k.before.requires.1.faultless k.before.args.f k.before.requires.0 in (
       omega (arith, fits, w, c.before.before.length-of.ensures),
-      c.width_of_lem.ensures.1,
-      rw w c.before.before.before.value_of_lem.ensures.1,
+      c.width_of.ensures.1,
+      rw w c.before.before.before.value_of.ensures.1,
       rw w c.before.value-of2.ensures.1,
     )
 
 returns : tie.Need-returns
 returns c =
-    let w = c.before.width_of_lem.ensures.0 in
+    let w = c.before.width_of.ensures.0 in
     c.is_leading.ensures
     ∙ (λ i.
-    leads (prefix (w i) (c.before.before.before.before.value_of_lem.ensures.0 i) (c.before.before.before.length-of.ensures i))
+    leads (prefix (w i) (c.before.before.before.before.value_of.ensures.0 i) (c.before.before.before.length-of.ensures i))
     (bits (w i) (c.before.before.value-of2.ensures.0 i)))
 
 pub leads_value_spec : {M : Type 1} → statement M
