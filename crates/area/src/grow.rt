@@ -6,7 +6,7 @@ ghost use Rattle.area.specs.Grow.{zeroed, mk, down, walked, inserted, with_bit, 
 use crate::{RECORD_WORDS, VECTOR_START};
 
 // Where a walk stands, and the number of the next record to be made.
-#[derive(Drop)]
+#[derive(Clone, Copy)]
 pub struct Spot {
     pub at: usize,
     pub next: usize,

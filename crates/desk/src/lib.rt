@@ -11,7 +11,7 @@ ghost use Rattle.desk.specs.Show.{Shows};
 use overlap::Obstacle;
 use rules::{Checked, Refusal};
 
-#[derive(Drop)]
+#[derive(Clone, Copy)]
 pub enum Built {
     // The number of words that the index takes.
     Done(usize),
@@ -41,7 +41,7 @@ pub fn lookup(table: &[u8], area: &[u32], header: &[u8]) -> lookup::Looked
     lookup::look(table, area, header)
 }
 
-#[derive(Drop)]
+#[derive(Clone, Copy)]
 pub enum Paired {
     Listed(usize),
     Refused(Refusal),
@@ -64,7 +64,7 @@ pub fn pairs(table: &[u8], list: &mut [u16]) -> Paired
 }
 
 // What `judge` answers.
-#[derive(Drop)]
+#[derive(Clone, Copy)]
 pub enum Judged {
     Allowed,
     Refused(Refusal),

@@ -17,7 +17,7 @@ use lookup::Looked;
 
 // An answer in 01's numbers: the number, how many values it carries, and these values; zeros follow them.
 #[repr(C)]
-#[derive(Drop)]
+#[derive(Clone, Copy)]
 pub struct Answer {
     pub number: u32,
     pub count: u32,
@@ -26,7 +26,7 @@ pub struct Answer {
 
 // A part of the caller's table: where it starts and how many bytes it has.
 #[repr(C)]
-#[derive(Drop)]
+#[derive(Clone, Copy)]
 pub struct Part {
     pub start: usize,
     pub length: usize,

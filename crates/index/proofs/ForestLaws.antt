@@ -14,7 +14,7 @@ use Rattle.rules.specs.Rule.{Rule}
 use Rattle.area.specs.Shape.{record_words}
 use Rattle.area.specs.Hand.{child_word}
 use Rattle.area.proofs.HandLaws.{Forest}
-use Rattle.index.specs.Key.{Key, at, has_record}
+use Rattle.index.specs.Key.{Key, has_record}
 use Rattle.index.specs.Keys.{keys}
 use Rattle.index.specs.Image.{child}
 use Rattle.index.proofs.KeyLaws.{no_key, further, further_same, Stands, stands_here, stands_same, place_in, place_out}

@@ -17,7 +17,7 @@ use Rattle.bits.proofs.DigitLaws.{digit_small}
 use Rattle.area.specs.Shape.{blocks, record_words, vector_start}
 use Rattle.area.specs.Grow.{State, with_bit}
 use Rattle.area.proofs.GrowLaws.{bit_length}
-use Rattle.index.specs.Key.{Key, at, same_key}
+use Rattle.index.specs.Key.{Key, same_key}
 use Rattle.index.proofs.KeyLaws.{same_key_eq, same_key_refl, same_key_ne, Stands, stands_same, stands_has_record}
 use Rattle.index.proofs.MarkLaws.{Mark, mark_words, length_words, with_mark, mark_more, mark_elsewhere, mark_here}
 use Rattle.index.proofs.Recorded.{Sound5, Recorded, Walking}

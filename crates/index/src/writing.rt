@@ -10,7 +10,7 @@ ghost use Rattle.index.specs.Steps.{AllSound, field_in, rule_in, rules_in, all_i
 
 // Rule i's prefix of field f goes in.
 fn field_in(rule: &[u8], i: usize, f: usize, area: &mut [u32], next: usize) -> usize
-    requires f_bound { (f < 5) × (i < 256) × SoundRule rule.now }
+    requires sound { (f < 5) × (i < 256) × SoundRule rule.now }
     requires ready { Ready (mk area.old 0 next) × Roomy (field_in rule.now i f (mk area.old 0 next)) (length area.old) }
     ensures { mk area.new 0 result ≡ field_in rule.now i f (mk area.old 0 next) }
 {
@@ -22,7 +22,7 @@ fn field_in(rule: &[u8], i: usize, f: usize, area: &mut [u32], next: usize) -> u
 
 // Rule i's five prefixes go in.
 fn rule_in(rule: &[u8], i: usize, area: &mut [u32], next: usize) -> usize
-    requires i_bound { (i < 256) × SoundRule rule.now }
+    requires sound { (i < 256) × SoundRule rule.now }
     requires ready { Ready (mk area.old 0 next) × Roomy (rule_in rule.now i (mk area.old 0 next)) (length area.old) }
     ensures { mk area.new 0 result ≡ rule_in rule.now i (mk area.old 0 next) }
 {
@@ -35,7 +35,7 @@ fn rule_in(rule: &[u8], i: usize, area: &mut [u32], next: usize) -> usize
 
 // All rules go in, one after another.
 fn rules_in(table: &[u8], area: &mut [u32], next: usize) -> usize
-    requires table_bound { (rule_count table.now ≤ 256) × AllSound table.now }
+    requires sound { (rule_count table.now ≤ 256) × AllSound table.now }
     requires ready { Ready (mk area.old 0 next) × Roomy (rules_in table.now (rule_count table.now) (mk area.old 0 next)) (length area.old) }
     ensures { mk area.new 0 result ≡ rules_in table.now (rule_count table.now) (mk area.old 0 next) }
 {
@@ -49,7 +49,7 @@ fn rules_in(table: &[u8], area: &mut [u32], next: usize) -> usize
 
 // All rules go into an area whose five roots are cleared first. Answers the number of records.
 fn grow_all(table: &[u8], area: &mut [u32]) -> usize
-    requires table_bound { (rule_count table.now ≤ 256) × AllSound table.now }
+    requires sound { (rule_count table.now ≤ 256) × AllSound table.now }
     requires roomy { Roomy (all_in table.now area.old) (length area.old) }
     ensures { mk area.new 0 result ≡ all_in table.now area.old }
 {
@@ -59,8 +59,8 @@ fn grow_all(table: &[u8], area: &mut [u32]) -> usize
 
 // Writes the index of an accepted table; the area's further words keep their values.
 pub fn write(table: &[u8], area: &mut [u32])
-    requires table_bound { (rule_count table.now ≤ 256) × AllSound table.now }
-    requires table_bound_2 { (records 5 (rules_of table.now) ≤ 40965) × (need desk_shape (rules_of table.now) ≤ length area.old) }
+    requires sound { (rule_count table.now ≤ 256) × AllSound table.now }
+    requires roomy { (records 5 (rules_of table.now) ≤ 40965) × (need desk_shape (rules_of table.now) ≤ length area.old) }
     ensures { area.new ≡ image desk_shape (rules_of table.now) ++ drop (need desk_shape (rules_of table.now)) area.old }
 {
     let count = grow_all(table, area);

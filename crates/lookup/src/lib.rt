@@ -10,20 +10,20 @@ mod walk;
 pub use steps::look;
 
 // 01: "A match carries its place and, inside it, the action".
-#[derive(Drop)]
+#[derive(Clone, Copy)]
 pub enum Outcome {
     NoMatch,
     Match(usize, rules::Action),
 }
 
 // 01: "Beside the answer stands the number of false blocks."
-#[derive(Drop)]
+#[derive(Clone, Copy)]
 pub struct Answer {
     pub falses: usize,
     pub outcome: Outcome,
 }
 
-#[derive(Drop)]
+#[derive(Clone, Copy)]
 pub enum Looked {
     Found(Answer),
     Refused(rules::Refusal),

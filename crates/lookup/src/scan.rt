@@ -10,7 +10,7 @@ ghost use Rattle.lookup.specs.InCode.{scanned};
 const BLOCK_PLACES: usize = 32;
 
 // What the blocks gave: the lowest place that all five vectors have, and the number of false blocks.
-#[derive(Drop)]
+#[derive(Clone, Copy)]
 pub struct Scanned {
     pub place: rules::Place,
     pub falses: usize,

@@ -8,7 +8,7 @@ ghost use Rattle.lookup.specs.Look.{header_keys, widths, least_words};
 ghost use Rattle.lookup.specs.InCode.{reached, reached_all, AllInside};
 
 // Where one field's walk ends.
-#[derive(Drop)]
+#[derive(Clone, Copy)]
 pub enum Walk {
     Ends(usize),
     Damaged,
@@ -16,7 +16,7 @@ pub enum Walk {
 
 // Where the five walks end, in the order of the fields; not `sound` where one met damage, and then
 // the records mean nothing. (An enum that holds an array is not covered by the borrow checker.)
-#[derive(Drop)]
+#[derive(Clone, Copy)]
 pub struct Ends {
     pub sound: bool,
     pub records: [usize; 5],

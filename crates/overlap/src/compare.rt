@@ -21,7 +21,7 @@ pub fn rule_at(table: &[u8], place: usize) -> &[u8]
 }
 
 // What two rules are asked in each field.
-#[derive(Drop)]
+#[derive(Clone, Copy)]
 enum Relation {
     Share,
     Cover,

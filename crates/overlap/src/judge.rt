@@ -12,7 +12,7 @@ use crate::{Inverse, lowest_shared, same_action, shares};
 use rules::{Crossing, RECORD_BYTES};
 
 // What stands in the way of a move.
-#[derive(Drop)]
+#[derive(Clone, Copy)]
 pub enum Obstacle {
     Crossed(Crossing),
     Nothing,

@@ -9,7 +9,7 @@ use rules::MOST_RULES;
 const UNSEEN: u16 = 256;
 
 // Whether a list is an order; and if it is, the new place of each old one.
-#[derive(Drop)]
+#[derive(Clone, Copy)]
 pub struct Inverse {
     pub valid: bool,
     pub places: [u16; MOST_RULES],

@@ -55,7 +55,7 @@ pub fn count_pairs(table: &[u8]) -> usize
 // Writes a pair, "lower place first", if it is listed; answers where the next one goes.
 fn put_pair(table: &[u8], lower: usize, higher: usize, list: &mut [u16], at: usize) -> usize
     requires accepted { Accepted table.now × (lower < rule_count table.now) × (higher < rule_count table.now) }
-    requires higher_in_bounds { at + length (entries (listed_row table.now lower higher 1)) ≤ length list.old }
+    requires room { at + length (entries (listed_row table.now lower higher 1)) ≤ length list.old }
     ensures { Writes list.old at (entries (listed_row table.now lower higher 1)) list.new result }
 {
     if !is_listed(table, lower, higher) {
@@ -69,7 +69,7 @@ fn put_pair(table: &[u8], lower: usize, higher: usize, list: &mut [u16], at: usi
 // Writes the listed pairs of a place with the higher ones; answers where the next one goes.
 fn write_row(table: &[u8], lower: usize, list: &mut [u16], start: usize) -> usize
     requires accepted { Accepted table.now × (lower < rule_count table.now) }
-    requires lower_in_bounds { start + length (entries (listed_with table.now lower)) ≤ length list.old }
+    requires room { start + length (entries (listed_with table.now lower)) ≤ length list.old }
     ensures { Writes list.old start (entries (listed_with table.now lower)) list.new result }
 {
     let mut at = start;

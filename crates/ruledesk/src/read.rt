@@ -10,7 +10,7 @@ ghost use Rattle.ruledesk.specs.Reading.{counted_in, ReadInto, Reads, WholeRead}
 const UNREADABLE: usize = 1;
 
 // What one read came to: the whole length so far, the end, or a failure.
-#[derive(Drop)]
+#[derive(Clone, Copy)]
 enum Got {
     More(usize),
     End,

@@ -2,7 +2,7 @@
 use crate::records::{delivering_rule, write_record};
 use rules::MOST_RULES;
 
-#[derive(Drop)]
+#[derive(Clone, Copy)]
 pub enum Pattern {
     // Addresses to 24 and 16 bits, an exact destination port, one of two protocols.
     Traffic,

@@ -1,0 +1,14 @@
+-- `crossing_at` meets its contract: the two records are the rules at their places.
+use mathlib.Core.Path.{ap, ap₂, ◌∙◌}
+use mathlib.Core.List.{List, ◌∷◌}
+use Prim.Native.Nat.{ℕ}
+use Rattle.rules.specs.Overlap.{lowest_shared}
+use Rattle.overlap.specs.Obstacle.{pair_told, crossing_told}
+use Rattle.overlap.proofs.judge.crossing_at.Goals as goal
+
+pub returns : goal.returns
+unfolding crossing_told pair_told
+returns c =
+    let a = c.args in
+    ap (λ (vs : List ℕ). a.lower ∷ a.higher ∷ vs)
+    (c.lowest_shared.ensures ∙ ap₂ lowest_shared c.rule_at.ensures.1 c.rule_at-2.ensures.1)
