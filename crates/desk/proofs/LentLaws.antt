@@ -80,4 +80,4 @@ done_accepted table rest vs e =
 
 pub done_written : (says written before vs : List ℕ) → says ≡ 0 ∷ vs → lent_after says written before ≡ written
 unfolding lent_after
-done_written says written before vs e = ap (λ (l : List ℕ). lent_after l written before) e
+done_written _ written before vs e = ap (λ (l : List ℕ). lent_after l written before) e
