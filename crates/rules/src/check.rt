@@ -16,6 +16,7 @@ const DESTINATION_PORT: usize = 3;
 const PROTOCOL: usize = 4;
 
 // An action from its two bytes. No kind but 1 delivers.
+#[tactic(auto, unfolding(crate::specs::Action::decoded))]
 pub fn decode(kind: u8, feed: u8) -> Decoded
     ensures { result ≡ decoded kind feed }
 {
