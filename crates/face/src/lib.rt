@@ -1,4 +1,4 @@
-// The desk's calls for C and Rust: one exported function for each call of `desk`, none with a `requires`.
+// The desk's calls for C and Rust, which `face_c` exports: one function for each call of `desk`, none with a `requires`.
 // An answer goes out by value, in 01's own numbers, so that a refusal writes nothing at all.
 #![tactic(auto)]
 
@@ -33,8 +33,7 @@ pub struct Part {
 }
 
 // Done carries the number of words that the index takes.
-#[unsafe(no_mangle)]
-pub extern "C" fn ruledesk_build(table: &[u8], area: &mut [u32]) -> Answer
+pub fn ruledesk_build(table: &[u8], area: &mut [u32]) -> Answer
     ensures hands { Hands (build_said table.now area.old) result }
     ensures lent { area.new ≡ area_left table.now area.old }
 {
@@ -45,8 +44,7 @@ pub extern "C" fn ruledesk_build(table: &[u8], area: &mut [u32]) -> Answer
 }
 
 // Done carries the number of false blocks; then 1, the place, the action's kind and its feed, or 0 where no rule matches.
-#[unsafe(no_mangle)]
-pub extern "C" fn ruledesk_lookup(table: &[u8], area: &[u32], header: &[u8]) -> Answer
+pub fn ruledesk_lookup(table: &[u8], area: &[u32], header: &[u8]) -> Answer
     ensures { Hands (look_said table.now area.now header.now) result }
 {
     match desk::lookup(table, area, header) {
@@ -56,8 +54,7 @@ pub extern "C" fn ruledesk_lookup(table: &[u8], area: &[u32], header: &[u8]) -> 
 }
 
 // Done carries the number of pairs.
-#[unsafe(no_mangle)]
-pub extern "C" fn ruledesk_pairs(table: &[u8], list: &mut [u16]) -> Answer
+pub fn ruledesk_pairs(table: &[u8], list: &mut [u16]) -> Answer
     ensures hands { Hands (pairs_said table.now list.old) result }
     ensures lent { list.new ≡ pairs_left table.now list.old }
 {
@@ -68,8 +65,7 @@ pub extern "C" fn ruledesk_pairs(table: &[u8], list: &mut [u16]) -> Answer
 }
 
 // Done carries nothing.
-#[unsafe(no_mangle)]
-pub extern "C" fn ruledesk_judge(table: &[u8], order: &[u16], output: &mut [u8]) -> Answer
+pub fn ruledesk_judge(table: &[u8], order: &[u16], output: &mut [u8]) -> Answer
     ensures hands { Hands (judge_said table.now order.now output.old) result }
     ensures lent { output.new ≡ judge_left table.now order.now output.old }
 {
@@ -79,9 +75,8 @@ pub extern "C" fn ruledesk_judge(table: &[u8], order: &[u16], output: &mut [u8])
     }
 }
 
-// An exported function hands back no reference, so the part is named by its start and its length.
-#[unsafe(no_mangle)]
-pub extern "C" fn ruledesk_show(table: &[u8], place: usize) -> Part
+// What is exported hands back no reference, so the part is named by its start and its length.
+pub fn ruledesk_show(table: &[u8], place: usize) -> Part
     ensures { Points table.now place result }
 {
     let part = desk::show(table, place);
