@@ -8,16 +8,17 @@ mod read;
 mod report;
 mod text;
 
-use libc::{STDIN_FILENO, STDOUT_FILENO};
 use report::{AREA_WORDS, MOST_INPUT, TABLE_BYTES, TEXT_BYTES};
+use std::io;
+use std::io::Write;
 
-fn main() {
+fn main(rt: HostRuntime) -> io::Result<()> {
     let mut head = [0u8; TABLE_BYTES];
     let mut first = [0u8; MOST_INPUT];
     let mut area = [0u32; AREA_WORDS];
     let mut out = [0u8; TEXT_BYTES];
-    let file = read::read_file(b"rules.bin", &mut head);
-    let input = read::read_whole(STDIN_FILENO, &mut first);
+    let file = read::read_file(&rt, "rules.bin", &mut head);
+    let input = read::read_whole(&mut rt.reader(), &mut first);
     let written = report::report(&head, file, &first, input, &mut area, &mut out);
-    io::write_all(STDOUT_FILENO, &out[..written]);
+    io::writer(&rt).write_all(&out[..written])
 }

@@ -5,6 +5,10 @@
 ghost use Rattle.std.specs.Prelude.{◌≡◌, ◌<◌, length};
 ghost use Rattle.ruledesk.specs.Reading.{counted_in, ReadInto, Reads, WholeRead};
 
+use std::fs;
+use std::io::Read;
+use std::rt::Files;
+
 // "an unreadable file counts as 1": what cannot be read to its end counts as one byte, which is no whole
 // rule and no whole header, so that the file is refused with 1 and the input with 8.
 const UNREADABLE: usize = 1;
@@ -34,33 +38,37 @@ fn count_in(whole: usize, answer: isize, part: &[u8]) -> Got
     Got::More(whole + count)
 }
 
-// One read into a part that is lent to it. Of no room it would answer 0, as at the end.
-fn read_some(fd: i32, part: &mut [u8], whole: usize) -> Got
+// One read into a part that is lent to it. Of no room it would answer 0, as at the end. What fails counts as an answer
+// below 0.
+fn read_some<R: Read>(reader: &mut R, part: &mut [u8], whole: usize) -> Got
     requires { 0 < length part.old }
     ensures { ReadInto whole part.new result }
 {
-    let answer = libc::read(fd, part);
+    let answer = match reader.read(part) {
+        Ok(count) => count as isize,
+        Err(_) => -1,
+    };
     count_in(whole, answer, part)
 }
 
 // One read, behind what is held. Once the room is full, bytes are counted and not kept.
-fn read_on(fd: i32, room: &mut [u8], whole: usize) -> Got
+fn read_on<R: Read>(reader: &mut R, room: &mut [u8], whole: usize) -> Got
     ensures { Reads room.old whole room.new result }
 {
     if whole < room.len() {
-        return read_some(fd, &mut room[whole..], whole);
+        return read_some(reader, &mut room[whole..], whole);
     }
     let mut passed = io::large_buffer();
-    read_some(fd, &mut passed, whole)
+    read_some(reader, &mut passed, whole)
 }
 
 // Reads all, keeps the first bytes, as many as there is room for, and answers the whole length.
-pub fn read_whole(fd: i32, room: &mut [u8]) -> usize
+pub fn read_whole<R: Read>(reader: &mut R, room: &mut [u8]) -> usize
     ensures { WholeRead room.new result }
 {
     let mut whole = 0;
     loop {
-        match read_on(fd, room, whole) {
+        match read_on(reader, room, whole) {
             Got::More(next) => whole = next,
             Got::End => return whole,
             Got::Failure => return UNREADABLE,
@@ -69,14 +77,11 @@ pub fn read_whole(fd: i32, room: &mut [u8]) -> usize
 }
 
 // The same of a file by its name.
-pub fn read_file(name: &[u8], room: &mut [u8]) -> usize
+pub fn read_file<R: Files>(rt: &R, name: &str, room: &mut [u8]) -> usize
     ensures { WholeRead room.new result }
 {
-    let fd = os::open_read(name);
-    if fd < 0 {
-        return UNREADABLE;
+    match fs::open(rt, name) {
+        Ok(mut file) => read_whole(&mut file, room),
+        Err(_) => UNREADABLE,
     }
-    let whole = read_whole(fd, room);
-    libc::close(fd);
-    whole
 }
