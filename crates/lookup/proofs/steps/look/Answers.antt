@@ -3,6 +3,7 @@ use mathlib.Core.Path.{sym, ◌∙◌}
 use Prim.Native.Nat.{◌/◌, ◌%◌}
 use lib.ListN.{length}
 use borrow.Author.Tests.{eq-eqb, ne_eqb, lt-ltb, le-ltb}
+use native.Mathlib.Omega.{arith}
 use Rattle.rules.specs.Refusal.{said}
 use Rattle.lookup.specs.Look.{least_words}
 use Rattle.lookup.specs.InCode.{looked_said}
@@ -19,24 +20,24 @@ pub returns-then-table-ne0 : goal.returns-then-table-ne0
 unfolding looked_said said
 returns-then-table-ne0 c =
     let a = c.args in
-    sym (look_ragged a.table.now a.area.now a.header.now (eq-eqb (length c.args.header.now) 13 c.if-header-ne-HEADER_BYTES.false) (ne_eqb (length a.table.now % 24) 0 c.if-table-ne0.true))
+    sym (look_ragged a.table.now a.area.now a.header.now (eq-eqb (length c.args.header.now) 13 (omega arith)) (ne_eqb (length a.table.now % 24) 0 c.if-table-ne0.true))
 
 pub returns-then-table-gt-MOST_RULES : goal.returns-then-table-gt-MOST_RULES
 unfolding looked_said said
 returns-then-table-gt-MOST_RULES c =
     let a = c.args in
-    sym (look_many a.table.now a.area.now a.header.now (eq-eqb (length c.args.header.now) 13 c.if-header-ne-HEADER_BYTES.false) (eq-eqb (length c.args.table.now % 24) 0 c.if-table-ne0.false) (lt-ltb 256 (length a.table.now / 24) c.if-table-gt-MOST_RULES.true))
+    sym (look_many a.table.now a.area.now a.header.now (eq-eqb (length c.args.header.now) 13 (omega arith)) (eq-eqb (length c.args.table.now % 24) 0 (omega arith)) (lt-ltb 256 (length a.table.now / 24) c.if-table-gt-MOST_RULES.true))
 
 pub returns-then-area : goal.returns-then-area
 unfolding looked_said said
 returns-then-area c =
     let a = c.args in
-    sym (look_short a.table.now a.area.now a.header.now (eq-eqb (length c.args.header.now) 13 c.if-header-ne-HEADER_BYTES.false) (eq-eqb (length c.args.table.now % 24) 0 c.if-table-ne0.false) (le-ltb 256 (length c.args.table.now / 24) c.if-table-gt-MOST_RULES.false)
+    sym (look_short a.table.now a.area.now a.header.now (eq-eqb (length c.args.header.now) 13 (omega arith)) (eq-eqb (length c.args.table.now % 24) 0 (omega arith)) (le-ltb 256 (length c.args.table.now / 24) c.if-table-gt-MOST_RULES.false)
     (lt-ltb (length a.area.now) least_words c.if-area.true))
 
 pub returns : goal.returns
 returns c =
     let a = c.args in
     c.go_through.ensures
-    ∙ sym (look_steps a.table.now a.area.now a.header.now (eq-eqb (length c.args.header.now) 13 c.if-header-ne-HEADER_BYTES.false) (eq-eqb (length c.args.table.now % 24) 0 c.if-table-ne0.false) (le-ltb 256 (length c.args.table.now / 24) c.if-table-gt-MOST_RULES.false)
+    ∙ sym (look_steps a.table.now a.area.now a.header.now (eq-eqb (length c.args.header.now) 13 (omega arith)) (eq-eqb (length c.args.table.now % 24) 0 (omega arith)) (le-ltb 256 (length c.args.table.now / 24) c.if-table-gt-MOST_RULES.false)
     (le-ltb (length a.area.now) least_words c.if-area.false))
