@@ -1,4 +1,4 @@
-//! Finds the desk's archive: `libface.a` in the folder that RULEDESK_LIB names, or where `rt staticlib face` writes it.
+//! Finds the desk's archive: `libface.a` in the folder that RULEDESK_LIB names, or where `tools/archive` writes it.
 use std::env;
 use std::path::PathBuf;
 
