@@ -2,77 +2,117 @@
 // the answer with the lent memory after it. Each answers whether to go on.
 use crate::request::HEADER_BYTES;
 use crate::{NONE, answers, reply, request};
+use std::io;
+use std::io::{Read, Write};
 
-pub fn build(table: &[u8], area: &mut [u32], wire: &mut [u8]) -> bool {
-    let end = request::words_into(area, wire);
+pub fn build<R: Read, W: Write>(
+    input: &mut R,
+    output: &mut W,
+    table: &[u8],
+    area: &mut [u32],
+    wire: &mut [u8],
+) -> io::Result<bool> {
+    let end = request::words_into(input, area, wire)?;
     if area.len() < end {
-        return false;
+        return Ok(false);
     }
     let answer = face::ruledesk_build(table, &mut area[0..end]);
     let answered = answers::put_answer(wire, 0, answer);
     let replied = reply::put_words(wire, answered, &area[0..end]);
-    reply::send(wire, replied)
+    reply::send(output, wire, replied)
 }
 
-pub fn lookup(table: &[u8], area: &mut [u32], bytes: &mut [u8], wire: &mut [u8]) -> bool {
-    let last = request::words_into(area, wire);
+pub fn lookup<R: Read, W: Write>(
+    input: &mut R,
+    output: &mut W,
+    table: &[u8],
+    area: &mut [u32],
+    bytes: &mut [u8],
+    wire: &mut [u8],
+) -> io::Result<bool> {
+    let last = request::words_into(input, area, wire)?;
     if area.len() < last {
-        return false;
+        return Ok(false);
     }
-    let end = request::bytes_into(bytes);
+    let end = request::bytes_into(input, bytes)?;
     if bytes.len() < end {
-        return false;
+        return Ok(false);
     }
     let answer = face::ruledesk_lookup(table, &area[0..last], &bytes[0..end]);
     let replied = answers::put_answer(wire, 0, answer);
-    reply::send(wire, replied)
+    reply::send(output, wire, replied)
 }
 
-pub fn pairs(table: &[u8], list: &mut [u16], wire: &mut [u8]) -> bool {
-    let end = request::entries_into(list, wire);
+pub fn pairs<R: Read, W: Write>(
+    input: &mut R,
+    output: &mut W,
+    table: &[u8],
+    list: &mut [u16],
+    wire: &mut [u8],
+) -> io::Result<bool> {
+    let end = request::entries_into(input, list, wire)?;
     if list.len() < end {
-        return false;
+        return Ok(false);
     }
     let answer = face::ruledesk_pairs(table, &mut list[0..end]);
     let answered = answers::put_answer(wire, 0, answer);
     let replied = reply::put_entries(wire, answered, &list[0..end]);
-    reply::send(wire, replied)
+    reply::send(output, wire, replied)
 }
 
-pub fn judge(table: &[u8], list: &mut [u16], bytes: &mut [u8], wire: &mut [u8]) -> bool {
-    let last = request::entries_into(list, wire);
+pub fn judge<R: Read, W: Write>(
+    input: &mut R,
+    output: &mut W,
+    table: &[u8],
+    list: &mut [u16],
+    bytes: &mut [u8],
+    wire: &mut [u8],
+) -> io::Result<bool> {
+    let last = request::entries_into(input, list, wire)?;
     if list.len() < last {
-        return false;
+        return Ok(false);
     }
-    let end = request::bytes_into(bytes);
+    let end = request::bytes_into(input, bytes)?;
     if bytes.len() < end {
-        return false;
+        return Ok(false);
     }
     let answer = face::ruledesk_judge(table, &list[0..last], &mut bytes[0..end]);
     let answered = answers::put_answer(wire, 0, answer);
-    reply::send(wire, answered) && reply::send(bytes, end)
+    Ok(reply::send(output, wire, answered)? && reply::send(output, bytes, end)?)
 }
 
-pub fn show(table: &[u8], wire: &mut [u8]) -> bool {
-    let place = request::number();
+pub fn show<R: Read, W: Write>(
+    input: &mut R,
+    output: &mut W,
+    table: &[u8],
+    wire: &mut [u8],
+) -> io::Result<bool> {
+    let place = request::number(input)?;
     if place == NONE {
-        return false;
+        return Ok(false);
     }
     let replied = answers::put_shown(wire, table, face::ruledesk_show(table, place));
-    reply::send(wire, replied)
+    reply::send(output, wire, replied)
 }
 
-pub fn many(table: &[u8], area: &mut [u32], bytes: &mut [u8], wire: &mut [u8]) -> bool {
-    let last = request::words_into(area, wire);
+pub fn many<R: Read, W: Write>(
+    input: &mut R,
+    output: &mut W,
+    table: &[u8],
+    area: &mut [u32],
+    bytes: &mut [u8],
+    wire: &mut [u8],
+) -> io::Result<bool> {
+    let last = request::words_into(input, area, wire)?;
     if area.len() < last {
-        return false;
+        return Ok(false);
     }
-    let end = request::headers_into(bytes);
+    let end = request::headers_into(input, bytes)?;
     if bytes.len() < end {
-        return false;
+        return Ok(false);
     }
     let replied = look_each(table, &area[0..last], &bytes[0..end], wire);
-    reply::send(wire, replied)
+    reply::send(output, wire, replied)
 }
 
 // The answers for all headers, one after the other.

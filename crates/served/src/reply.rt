@@ -1,14 +1,17 @@
 // Writing a reply: numbers, words and entries are collected in a buffer and go out by one write. Each
 // function puts something at a place of the buffer and answers the place after it. The buffer holds
 // the longest reply; beyond its end nothing is put.
-use libc::STDOUT_FILENO;
+use std::io;
+use std::io::Write;
 
-// Writes the bytes before the end; whether all of them went out.
-pub fn send(bytes: &[u8], end: usize) -> bool {
+// Writes the bytes before the end, at once; whether there are so many.
+pub fn send<W: Write>(output: &mut W, bytes: &[u8], end: usize) -> io::Result<bool> {
     if end <= bytes.len() {
-        io::write_all(STDOUT_FILENO, &bytes[0..end])
+        output.write_all(&bytes[0..end])?;
+        output.flush()?;
+        Ok(true)
     } else {
-        false
+        Ok(false)
     }
 }
 
