@@ -3,43 +3,41 @@
 #![tactic(auto)]
 
 use desk::Built;
-use libc::{STDERR_FILENO, STDOUT_FILENO};
 use samples::Pattern;
+use std::io;
+use std::time::CpuClock;
 use trial::report_of;
 
-fn main() {
+fn main(rt: HostRuntime) -> io::Result<()> {
     let mut table = [0u8; 6144];
     samples::fill(&mut table, Pattern::Traffic);
     let mut area = samples::large_area();
-    measure(&table, 32, &mut area);
-    measure(&table, 64, &mut area);
-    measure(&table, 128, &mut area);
-    measure(&table, 256, &mut area);
+    measure(&rt, &table, 32, &mut area)?;
+    measure(&rt, &table, 64, &mut area)?;
+    measure(&rt, &table, 128, &mut area)?;
+    measure(&rt, &table, 256, &mut area)
 }
 
-fn measure(table: &[u8], rules: usize, area: &mut [u32]) {
+fn measure(
+    rt: &(impl Print + Eprint + CpuClock),
+    table: &[u8],
+    rules: usize,
+    area: &mut [u32],
+) -> io::Result<()> {
     if rules <= table.len() / 24 {
         let part = &table[0..rules * 24];
-        let start = trial::clock();
+        let start = trial::clock(rt)?;
         repeat(part, area);
-        let time = trial::since(start);
-        report_of(
-            STDERR_FILENO,
-            rules,
-            b" rules, microseconds for 100 builds: ",
-            time,
-        );
-        report_of(
-            STDOUT_FILENO,
-            rules,
-            b" rules, words: ",
-            taken(desk::build(part, area)),
-        );
+        let time = trial::since(rt, start)?;
+        eprintln!(rt; "{rules} rules, microseconds for 100 builds: {time}")?;
+        let words = taken(desk::build(part, area));
+        report_of(rt, rules, " rules, words: ", words)?;
     }
+    Ok(())
 }
 
 fn repeat(table: &[u8], area: &mut [u32]) {
-    for i in 0..100usize {
+    for _ in 0..100usize {
         taken(desk::build(table, area));
     }
 }

@@ -3,28 +3,29 @@
 #![tactic(auto)]
 
 use desk::Built;
-use libc::{STDERR_FILENO, STDOUT_FILENO};
 use lookup::{Looked, Outcome};
 use samples::Pattern;
+use std::io;
+use std::time::CpuClock;
 use trial::report;
 
-fn main() {
+fn main(rt: HostRuntime) -> io::Result<()> {
     let mut table = [0u8; 6144];
     samples::fill(&mut table, Pattern::Traffic);
     let mut area = samples::large_area();
     if let Built::Done(words) = desk::build(&table, &mut area) {
-        report(STDOUT_FILENO, b"256 rules, words: ", words as u64);
+        report(&rt, "256 rules, words: ", words as u64)?;
     }
-    measure(&table, &area);
+    measure(&rt, &table, &area)
 }
 
-fn measure(table: &[u8], area: &[u32]) {
+fn measure(rt: &(impl Print + Eprint + CpuClock), table: &[u8], area: &[u32]) -> io::Result<()> {
     let mut header = [0u8; 13];
-    let start = trial::clock();
+    let start = trial::clock(rt)?;
     let matches = look_often(table, area, &mut header);
-    let time = trial::since(start);
-    report(STDERR_FILENO, b"microseconds for 1000000 lookups: ", time);
-    report(STDOUT_FILENO, b"1000000 lookups, matches: ", matches);
+    let time = trial::since(rt, start)?;
+    eprintln!(rt; "microseconds for 1000000 lookups: {time}")?;
+    report(rt, "1000000 lookups, matches: ", matches)
 }
 
 fn look_often(table: &[u8], area: &[u32], header: &mut [u8]) -> u64 {

@@ -5,26 +5,32 @@
 ghost use Rattle.std.specs.Prelude.{◌≡◌, length};
 
 use desk::{Judged, Paired};
-use libc::{STDERR_FILENO, STDOUT_FILENO};
 use samples::Pattern;
+use std::io;
+use std::time::CpuClock;
 use trial::report_of;
 
-fn main() {
+fn main(rt: HostRuntime) -> io::Result<()> {
     let mut table = [0u8; 6144];
     samples::fill(&mut table, Pattern::Crossing);
     let mut list = entries();
-    listing(&table, 64, &mut list);
-    listing(&table, 128, &mut list);
-    listing(&table, 256, &mut list);
+    listing(&rt, &table, 64, &mut list)?;
+    listing(&rt, &table, 128, &mut list)?;
+    listing(&rt, &table, 256, &mut list)?;
     let mut order = [0u16; 256];
     let mut output = [0u8; 6144];
-    judgements(&table, &mut order, &mut output);
+    judgements(&rt, &table, &mut order, &mut output)
 }
 
-fn judgements(table: &[u8], order: &mut [u16], output: &mut [u8]) {
-    reversing(table, 64, order, output);
-    reversing(table, 128, order, output);
-    reversing(table, 256, order, output);
+fn judgements(
+    rt: &(impl Print + Eprint + CpuClock),
+    table: &[u8],
+    order: &mut [u16],
+    output: &mut [u8],
+) -> io::Result<()> {
+    reversing(rt, table, 64, order, output)?;
+    reversing(rt, table, 128, order, output)?;
+    reversing(rt, table, 256, order, output)
 }
 
 // Room for every pair of 256 rules.
@@ -34,29 +40,26 @@ fn entries() -> [u16; 65280]
     [0; 65280]
 }
 
-fn listing(table: &[u8], rules: usize, list: &mut [u16]) {
+fn listing(
+    rt: &(impl Print + Eprint + CpuClock),
+    table: &[u8],
+    rules: usize,
+    list: &mut [u16],
+) -> io::Result<()> {
     if rules <= table.len() / 24 {
         let part = &table[0..rules * 24];
-        let start = trial::clock();
+        let start = trial::clock(rt)?;
         list_often(part, list);
-        let time = trial::since(start);
-        report_of(
-            STDERR_FILENO,
-            rules,
-            b" rules, microseconds for 20 pair lists: ",
-            time,
-        );
-        report_of(
-            STDOUT_FILENO,
-            rules,
-            b" rules, pairs: ",
-            listed(desk::pairs(part, list)),
-        );
+        let time = trial::since(rt, start)?;
+        eprintln!(rt; "{rules} rules, microseconds for 20 pair lists: {time}")?;
+        let pairs = listed(desk::pairs(part, list));
+        report_of(rt, rules, " rules, pairs: ", pairs)?;
     }
+    Ok(())
 }
 
 fn list_often(table: &[u8], list: &mut [u16]) {
-    for i in 0..20usize {
+    for _ in 0..20usize {
         listed(desk::pairs(table, list));
     }
 }
@@ -70,34 +73,38 @@ fn listed(paired: Paired) -> u64 {
 }
 
 // Every pair of rules changes its order, and none is in the way: all are compared.
-fn reversing(table: &[u8], rules: usize, order: &mut [u16], output: &mut [u8]) {
+fn reversing(
+    rt: &(impl Print + Eprint + CpuClock),
+    table: &[u8],
+    rules: usize,
+    order: &mut [u16],
+    output: &mut [u8],
+) -> io::Result<()> {
     if rules <= table.len() / 24 && rules <= order.len() {
         let places = &mut order[0..rules];
         samples::reverse(places);
-        judging(&table[0..rules * 24], places, output);
+        judging(rt, &table[0..rules * 24], places, output)?;
     }
+    Ok(())
 }
 
-fn judging(table: &[u8], order: &[u16], output: &mut [u8]) {
-    let start = trial::clock();
+fn judging(
+    rt: &(impl Print + Eprint + CpuClock),
+    table: &[u8],
+    order: &[u16],
+    output: &mut [u8],
+) -> io::Result<()> {
+    let rules = order.len();
+    let start = trial::clock(rt)?;
     judge_often(table, order, output);
-    let time = trial::since(start);
-    report_of(
-        STDERR_FILENO,
-        order.len(),
-        b" rules, microseconds for 20 judgements: ",
-        time,
-    );
-    report_of(
-        STDOUT_FILENO,
-        order.len(),
-        b" rules, allowed: ",
-        allowed(desk::judge(table, order, output)),
-    );
+    let time = trial::since(rt, start)?;
+    eprintln!(rt; "{rules} rules, microseconds for 20 judgements: {time}")?;
+    let answer = allowed(desk::judge(table, order, output));
+    report_of(rt, rules, " rules, allowed: ", answer)
 }
 
 fn judge_often(table: &[u8], order: &[u16], output: &mut [u8]) {
-    for i in 0..20usize {
+    for _ in 0..20usize {
         allowed(desk::judge(table, order, output));
     }
 }

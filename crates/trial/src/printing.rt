@@ -1,39 +1,36 @@
 // Text, numbers and refusals on standard output, and lines of figures.
-use libc::STDOUT_FILENO;
 use rules::{Place, Refusal};
+use std::io;
 
-pub fn say(text: &[u8]) {
-    io::write_all(STDOUT_FILENO, text);
+pub fn say(rt: &impl Print, text: &str) -> io::Result<()> {
+    rt.print(text)
 }
 
 // A space and the number.
-pub fn number(value: u64) {
-    say(b" ");
-    io::print_decimal(STDOUT_FILENO, value);
+pub fn number(rt: &impl Print, value: u64) -> io::Result<()> {
+    print!(rt; " {value}")
 }
 
 // The refusal's number, and its place if it has one.
-pub fn refused(refusal: Refusal) {
-    say(b": refused");
-    number(rules::number_of(refusal));
+pub fn refused(rt: &impl Print, refusal: Refusal) -> io::Result<()> {
+    say(rt, ": refused")?;
+    number(rt, rules::number_of(refusal))?;
     match rules::place_of(refusal) {
         Place::At(place) => {
-            say(b" at");
-            number(place as u64);
+            say(rt, " at")?;
+            number(rt, place as u64)
         }
-        Place::Nowhere => {}
+        Place::Nowhere => Ok(()),
     }
 }
 
 // A line: a figure after its name.
-pub fn report(fd: i32, name: &[u8], figure: u64) {
-    io::write_all(fd, name);
-    io::print_decimal(fd, figure);
-    io::write_all(fd, b"\n");
+pub fn report(rt: &impl Print, name: &str, figure: u64) -> io::Result<()> {
+    println!(rt; "{name}{figure}")
 }
 
 // The same, of so many rules.
-pub fn report_of(fd: i32, rules: usize, name: &[u8], figure: u64) {
-    io::print_decimal(fd, rules as u64);
-    report(fd, name, figure);
+pub fn report_of(rt: &impl Print, rules: usize, name: &str, figure: u64) -> io::Result<()> {
+    print!(rt; "{rules}")?;
+    report(rt, name, figure)
 }

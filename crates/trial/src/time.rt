@@ -1,15 +1,17 @@
 // The processor time that a program has used, in microseconds.
+use std::io;
+use std::time::{CpuClock, Duration};
 
-pub fn clock() -> u64 {
-    unsigned(libc::clock())
+pub fn clock(rt: &impl CpuClock) -> io::Result<u64> {
+    Ok(micros(rt.process_cpu_time()?))
 }
 
 // What was used since a reading of the clock.
-pub fn since(start: u64) -> u64 {
-    let end = clock();
-    if start <= end { end - start } else { 0 }
+pub fn since(rt: &impl CpuClock, start: u64) -> io::Result<u64> {
+    Ok(clock(rt)?.saturating_sub(start))
 }
 
-fn unsigned(time: i64) -> u64 {
-    if time > 0 { time as u64 } else { 0 }
+// Whole microseconds, or the most that fits where there are more.
+fn micros(time: Duration) -> u64 {
+    u64::try_from(time.as_micros()).unwrap_or(u64::MAX)
 }

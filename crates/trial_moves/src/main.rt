@@ -5,204 +5,234 @@
 use desk::{Judged, Paired};
 use rules::{Crossing, Refusal};
 use samples::Pattern;
+use std::io;
 use trial::{number, say};
 
-fn main() {
+fn main(rt: HostRuntime) -> io::Result<()> {
     let mut table = [0u8; 6144];
     let mut output = [9u8; 6144];
     samples::six_rules(&mut table);
-    pair_lists(&table);
-    allowed_orders(&table, &mut output);
-    refused_orders(&table, &mut output);
-    bad_orders(&table, &mut output);
-    nothing(&table, &mut output);
+    pair_lists(&rt, &table)?;
+    allowed_orders(&rt, &table, &mut output)?;
+    refused_orders(&rt, &table, &mut output)?;
+    bad_orders(&rt, &table, &mut output)?;
+    nothing(&rt, &table, &mut output)?;
     samples::fill(&mut table, Pattern::Equal);
-    reversed(b"256 equal rules reversed", &table, &mut output);
+    reversed(&rt, "256 equal rules reversed", &table, &mut output)?;
     samples::fill(&mut table, Pattern::OwnFeed);
-    reversed(b"256 feeds reversed", &table, &mut output);
+    reversed(&rt, "256 feeds reversed", &table, &mut output)
 }
 
 // Lists of one pair: one entry short, exact, and longer.
-fn pair_lists(table: &[u8]) {
+fn pair_lists(rt: &impl Print, table: &[u8]) -> io::Result<()> {
     let mut list = [7u16; 3];
-    listed(b"list of 1", table, 144, &mut list, 1);
-    listed(b"list of 2", table, 144, &mut list, 2);
-    listed(b"list of 3", table, 144, &mut list, 3);
-    listed(b"no rule, list of 0", table, 0, &mut list, 0);
-    listed(b"a byte too many", table, 145, &mut list, 3);
+    listed(rt, "list of 1", table, 144, &mut list, 1)?;
+    listed(rt, "list of 2", table, 144, &mut list, 2)?;
+    listed(rt, "list of 3", table, 144, &mut list, 3)?;
+    listed(rt, "no rule, list of 0", table, 0, &mut list, 0)?;
+    listed(rt, "a byte too many", table, 145, &mut list, 3)
 }
 
-fn listed(name: &[u8], table: &[u8], bytes: usize, list: &mut [u16], entries: usize) {
+fn listed(
+    rt: &impl Print,
+    name: &str,
+    table: &[u8],
+    bytes: usize,
+    list: &mut [u16],
+    entries: usize,
+) -> io::Result<()> {
     if bytes <= table.len() && entries <= list.len() {
-        say(name);
+        say(rt, name)?;
         match desk::pairs(&table[0..bytes], &mut list[0..entries]) {
-            Paired::Listed(count) => counted(count),
-            Paired::Refused(refusal) => refused(refusal),
+            Paired::Listed(count) => counted(rt, count)?,
+            Paired::Refused(refusal) => refused(rt, refusal)?,
         }
-        say(b"; list");
-        numbers(list);
-        say(b"\n");
+        say(rt, "; list")?;
+        numbers(rt, list)?;
+        say(rt, "\n")?;
     }
+    Ok(())
 }
 
-fn counted(count: usize) {
-    say(b":");
-    number(count as u64);
-    say(b" pairs");
+fn counted(rt: &impl Print, count: usize) -> io::Result<()> {
+    say(rt, ":")?;
+    number(rt, count as u64)?;
+    say(rt, " pairs")
 }
 
-fn allowed_orders(table: &[u8], output: &mut [u8]) {
+fn allowed_orders(rt: &impl Print, table: &[u8], output: &mut [u8]) -> io::Result<()> {
     judged(
-        b"left in place",
+        rt,
+        "left in place",
         table,
         144,
         &[0, 1, 2, 3, 4, 5],
         output,
         144,
-    );
+    )?;
     judged(
-        b"4 and 5 exchanged",
+        rt,
+        "4 and 5 exchanged",
         table,
         144,
         &[0, 1, 2, 3, 5, 4],
         output,
         145,
-    );
+    )
 }
 
-fn refused_orders(table: &[u8], output: &mut [u8]) {
+fn refused_orders(rt: &impl Print, table: &[u8], output: &mut [u8]) -> io::Result<()> {
     judged(
-        b"0 and 1 exchanged",
+        rt,
+        "0 and 1 exchanged",
         table,
         144,
         &[1, 0, 2, 3, 4, 5],
         output,
         144,
-    );
+    )?;
     judged(
-        b"2 and 3 exchanged",
+        rt,
+        "2 and 3 exchanged",
         table,
         144,
         &[0, 1, 3, 2, 4, 5],
         output,
         144,
-    );
+    )?;
     judged(
-        b"output a byte short",
+        rt,
+        "output a byte short",
         table,
         144,
         &[1, 0, 2, 3, 4, 5],
         output,
         143,
-    );
+    )
 }
 
-fn bad_orders(table: &[u8], output: &mut [u8]) {
-    judged(b"order of 5", table, 144, &[0, 1, 2, 3, 4], output, 144);
+fn bad_orders(rt: &impl Print, table: &[u8], output: &mut [u8]) -> io::Result<()> {
+    judged(rt, "order of 5", table, 144, &[0, 1, 2, 3, 4], output, 144)?;
     judged(
-        b"order of 7",
+        rt,
+        "order of 7",
         table,
         144,
         &[0, 1, 2, 3, 4, 5, 6],
         output,
         144,
-    );
-    judged(b"entry 6", table, 144, &[0, 1, 2, 3, 4, 6], output, 144);
+    )?;
+    judged(rt, "entry 6", table, 144, &[0, 1, 2, 3, 4, 6], output, 144)?;
     judged(
-        b"entry 65535",
+        rt,
+        "entry 65535",
         table,
         144,
         &[65535, 1, 2, 3, 4, 5],
         output,
         144,
-    );
+    )?;
     judged(
-        b"entry repeated",
+        rt,
+        "entry repeated",
         table,
         144,
         &[0, 1, 2, 3, 4, 4],
         output,
         143,
-    );
+    )
 }
 
-fn nothing(table: &[u8], output: &mut [u8]) {
+fn nothing(rt: &impl Print, table: &[u8], output: &mut [u8]) -> io::Result<()> {
     let none = [0u16; 0];
-    judged(b"no rule, no order", table, 0, &none, output, 0);
-    judged(b"no rule, order of 1", table, 0, &[0], output, 0);
+    judged(rt, "no rule, no order", table, 0, &none, output, 0)?;
+    judged(rt, "no rule, order of 1", table, 0, &[0], output, 0)
 }
 
-fn reversed(name: &[u8], table: &[u8], output: &mut [u8]) {
+fn reversed(rt: &impl Print, name: &str, table: &[u8], output: &mut [u8]) -> io::Result<()> {
     let mut order = [0u16; 256];
     samples::reverse(&mut order);
-    judged(name, table, 6144, &order, output, 6144);
+    judged(rt, name, table, 6144, &order, output, 6144)
 }
 
-fn judged(name: &[u8], table: &[u8], bytes: usize, order: &[u16], output: &mut [u8], room: usize) {
+fn judged(
+    rt: &impl Print,
+    name: &str,
+    table: &[u8],
+    bytes: usize,
+    order: &[u16],
+    output: &mut [u8],
+    room: usize,
+) -> io::Result<()> {
     if bytes <= table.len() && room <= output.len() {
-        say(name);
+        say(rt, name)?;
         match desk::judge(&table[0..bytes], order, &mut output[0..room]) {
-            Judged::Allowed => say(b": allowed"),
-            Judged::Refused(refusal) => refused(refusal),
+            Judged::Allowed => say(rt, ": allowed")?,
+            Judged::Refused(refusal) => refused(rt, refusal)?,
         }
-        feeds(output);
+        feeds(rt, output)?;
     }
+    Ok(())
 }
 
 // The feeds of the output's first six records.
-fn feeds(output: &[u8]) {
-    say(b"; feeds");
-    feed(output, 0);
-    feed(output, 1);
-    feed(output, 2);
-    feed(output, 3);
-    feed(output, 4);
-    feed(output, 5);
-    say(b"\n");
+fn feeds(rt: &impl Print, output: &[u8]) -> io::Result<()> {
+    say(rt, "; feeds")?;
+    feed(rt, output, 0)?;
+    feed(rt, output, 1)?;
+    feed(rt, output, 2)?;
+    feed(rt, output, 3)?;
+    feed(rt, output, 4)?;
+    feed(rt, output, 5)?;
+    say(rt, "\n")
 }
 
-fn feed(output: &[u8], place: usize) {
+fn feed(rt: &impl Print, output: &[u8], place: usize) -> io::Result<()> {
     let at = (place % 256) * 24 + 19;
     if at < output.len() {
-        byte(output[at]);
+        byte(rt, output[at])?;
     }
+    Ok(())
 }
 
-fn numbers(list: &[u16]) {
+fn numbers(rt: &impl Print, list: &[u16]) -> io::Result<()> {
     for i in 0..list.len() {
-        entry(list, i);
+        entry(rt, list, i)?;
     }
+    Ok(())
 }
 
-fn entry(list: &[u16], i: usize) {
+fn entry(rt: &impl Print, list: &[u16], i: usize) -> io::Result<()> {
     if i < list.len() {
-        place(list[i]);
+        place(rt, list[i])?;
     }
+    Ok(())
 }
 
-fn place(value: u16) {
-    number(value as u64);
+fn place(rt: &impl Print, value: u16) -> io::Result<()> {
+    number(rt, value as u64)
 }
 
-fn byte(value: u8) {
-    number(value as u64);
+fn byte(rt: &impl Print, value: u8) -> io::Result<()> {
+    number(rt, value as u64)
 }
 
-fn refused(refusal: Refusal) {
-    trial::refused(refusal);
+fn refused(rt: &impl Print, refusal: Refusal) -> io::Result<()> {
+    trial::refused(rt, refusal)?;
     if let Refusal::NotAllowed(crossing) = refusal {
-        crossed(crossing);
+        crossed(rt, crossing)?;
     }
+    Ok(())
 }
 
-fn crossed(crossing: Crossing) {
-    say(b", pair");
-    number(crossing.lower as u64);
-    number(crossing.higher as u64);
-    say(b", header");
-    number(crossing.header.source as u64);
-    number(crossing.header.destination as u64);
-    number(crossing.header.sport as u64);
-    number(crossing.header.dport as u64);
-    number(crossing.header.protocol as u64);
+fn crossed(rt: &impl Print, crossing: Crossing) -> io::Result<()> {
+    say(rt, ", pair")?;
+    number(rt, crossing.lower as u64)?;
+    number(rt, crossing.higher as u64)?;
+    say(rt, ", header")?;
+    number(rt, crossing.header.source as u64)?;
+    number(rt, crossing.header.destination as u64)?;
+    number(rt, crossing.header.sport as u64)?;
+    number(rt, crossing.header.dport as u64)?;
+    number(rt, crossing.header.protocol as u64)
 }
