@@ -88,7 +88,7 @@ pub fn report(
     area: &mut [u32; AREA_WORDS],
     out: &mut [u8; TEXT_BYTES],
 ) -> usize
-    ensures by_index { (table bytes : List ℕ) → Holds table head.now file → Holds bytes first.now input
+    ensures reports { (table bytes : List ℕ) → Holds table head.now file → Holds bytes first.now input
         → Reports table bytes area.old out.old result out.new area.new }
     ensures prefix_len { IsPrefixLen result out.new }
 {

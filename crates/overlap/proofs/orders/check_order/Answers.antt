@@ -30,7 +30,7 @@ loop-place-preserved c =
     let a = c.args in (
       omega arith,
       c.loop-place.invariant.1,
-      noted_more a.rules a.order.now c.requires c.loop-place.place (omega arith) c.loop-place.places c.loop-place.invariant.2 c.if-rules-old.false c.if-places-old-ne-UNSEEN.false,
+      noted_more a.rules a.order.now c.requires c.loop-place.place (omega arith) c.loop-place.places c.loop-place.invariant.2 c.if-rules-old.false (omega arith),
     )
 
 pub returns : goal.returns

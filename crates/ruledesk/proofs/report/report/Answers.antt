@@ -14,7 +14,7 @@ returns-then-file-gt-TABLE_BYTES c =
     let a = c.args in
     let put = c.put_refusal_line.ensures in
     let long = c.long_table.ensures in record {
-      by_index = λ table bytes held h.
+      reports = λ table bytes held h.
           let says = long ∙ ap long_said (sym held.size) ∙ sym (long_refused table a.area.now (omega (arith, held.size))) in
           record { text = text_same (text_said table bytes a.area.now (omega arith) _ says) put.0; lent = left_refused table a.area.now _ says };
       prefix_len = counted _ _ (omega (arith, put.1, writes_kept put.0));
@@ -26,7 +26,7 @@ slice_bounds-put_report-end c = let a = c.args in sym (length-take-le a.file a.h
 pub returns : goal.returns
 returns c =
     let put = c.put_report.ensures in record {
-      by_index = λ table bytes held h.
+      reports = λ table bytes held h.
           let whole = holds_whole held (omega arith) in
           report_same (sym whole) (put.0 bytes (subst Bytes whole held.each) h);
       prefix_len = counted _ _ (omega (arith, put.1, c.put_report.auto));
