@@ -68,6 +68,7 @@ fn put_report(table: &[u8], first: &[u8], whole: usize, area: &mut [u32], out: &
 }
 
 // A table longer than 256 rules: "Refusals 1 and 2 go by the file's whole length, however long."
+#[tactic(auto, unfolding(rules::specs::Refusal::said, crate::specs::InCode::long_said))]
 fn long_table(whole: usize) -> Refusal
     ensures { said result ≡ long_said whole }
 {

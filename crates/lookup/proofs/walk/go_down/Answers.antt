@@ -47,7 +47,7 @@ loop-j-preserved c =
       omega arith,
       high,
       sym (step_on area c.loop-j.row a.value a.width c.loop-j.j _ c.loop-j-test.true c.bit_of.ensures c.if-child-eq0.false
-          (bad_none area child c.if-child-lt-FIELDS.false high))
+          (bad_none area child (omega arith) high))
           ∙ c.loop-j.invariant.2,
     )
 
