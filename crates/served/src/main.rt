@@ -1,5 +1,5 @@
-// Serves the desk's exported calls over standard input and output, so that another program can be
-// compared with what C and Rust link. The protocol stands at the top of reference/main.rs. A request
+// Serves the calls of `face` over standard input and output, so that another program can be compared
+// with what `face_c` exports to C and Rust. The protocol stands at the top of reference/main.rs. A request
 // that the buffers do not hold, or that the input's end cuts off, ends the program, as op 0 does.
 #![tactic(auto)]
 
