@@ -61,7 +61,8 @@ pub fn try_blocks(vectors: [[u32; area::BLOCKS]; 5], aggregates: [u32; 5]) -> Sc
     for b in 0..area::BLOCKS {
         if is_set(tried, b) {
             let word = intersect(vectors, b);
-            if word != 0 {
+            let hit = word != 0;
+            if hit {
                 let place = rules::Place::At(b * BLOCK_PLACES + lowest(word));
                 return Scanned { place, falses };
             }

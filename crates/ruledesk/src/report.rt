@@ -46,7 +46,8 @@ fn put_input(table: &[u8], area: &[u32], first: &[u8], whole: usize, out: &mut [
     ensures { ((input : List ℕ) → Holds input first.now whole
         → Writes out.old 0 (input_text (look_said table.now area.now) input) out.new result) × (result ≤ 64000) }
 {
-    if whole > MOST_INPUT {
+    let too_long = whole > MOST_INPUT;
+    if too_long {
         return put_refusal_line(out, 0, Refusal::NotAHeader);
     }
     if whole % HEADER_BYTES != 0 {
@@ -97,7 +98,8 @@ pub fn report(
     let first: &[u8] = first;
     let area: &mut [u32] = area;
     let out: &mut [u8] = out;
-    if file > TABLE_BYTES {
+    let too_long = file > TABLE_BYTES;
+    if too_long {
         return put_refusal_line(out, 0, long_table(file));
     }
     put_report(&head[..file], first, input, area, out)

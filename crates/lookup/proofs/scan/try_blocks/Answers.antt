@@ -10,19 +10,19 @@ use Rattle.lookup.specs.Scan.{found, scan, meet}
 use Rattle.lookup.specs.InCode.{placed, scanned}
 use Rattle.lookup.proofs.BlockTurns.{counted, counted_none, block_past, block_false, block_wins, blocks_done}
 use Rattle.lookup.proofs.scan.try_blocks.Goals as goal
-use Rattle.lookup.proofs.scan.try_blocks.Goals.{then-is_set+else-word-ne0, else-is_set}
+use Rattle.lookup.proofs.scan.try_blocks.Goals.{then-is_set+else-hit, else-is_set}
 
 pub loop-b-init : goal.loop-b-init
 loop-b-init c = (omega arith, omega arith, counted_none _)
 
-pub returns-then-word-ne0 : goal.returns-then-word-ne0
+pub returns-then-hit : goal.returns-then-hit
 unfolding scanned placed
-returns-then-word-ne0 c =
+returns-then-hit c =
     let l = c.loop-b in
     let vectors = c.args.vectors in
     ap (λ (n : ℕ). found (some (l.b * 32 + n)) l.falses) (c.lowest.ensures.0 ∙ ap (count_trailing_zeros 32) c.intersect-word.ensures)
     ∙ sym (block_wins (bit c.common_bits-tried.result) (meet desk_shape vectors) l.b c.loop-b-test.true l.falses
-    (sym c.is_set.ensures ∙ c.if-is_set.true) (λ z. c.if-word-ne0.true (c.intersect-word.ensures ∙ z)))
+    (sym c.is_set.ensures ∙ c.if-is_set.true) (λ z. c.if-hit.true (c.intersect-word.ensures ∙ z)))
     ∙ l.invariant.2
     ∙ (ap (λ (t : ℕ). scan 32 (bit t) (meet desk_shape c.args.vectors) blocks 0) c.common_bits-tried.ensures)
 
@@ -33,11 +33,11 @@ loop-b-preserved c =
     let w = meet desk_shape c.args.vectors in
     let rest : ℕ → _ = λ n. counted n (scan 32 t w (blocks - (l.b + 1)) (l.b + 1)) in
     elim c.if-is_set.branch [
-      | then-is_set+else-word-ne0 o ↦ (
+      | then-is_set+else-hit o ↦ (
         omega arith,
         omega (arith, o.falses-is),
         ap rest o.falses-is
-            ∙ sym (block_false t w l.b c.loop-b-test.true l.falses (sym c.is_set.ensures ∙ o.if-is_set.true) (sym o.intersect-word.ensures ∙ o.if-word-ne0.false))
+            ∙ sym (block_false t w l.b c.loop-b-test.true l.falses (sym c.is_set.ensures ∙ o.if-is_set.true) (sym o.intersect-word.ensures ∙ o.if-hit.false))
             ∙ l.invariant.2,
       )
       | else-is_set o ↦ (

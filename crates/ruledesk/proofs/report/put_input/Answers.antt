@@ -7,8 +7,8 @@ use Rattle.ruledesk.proofs.TextLaws.{text_same}
 use Rattle.ruledesk.proofs.ProgramLaws.{input_long, input_ragged, held_lines}
 use Rattle.ruledesk.proofs.report.put_input.Goals as goal
 
-pub returns-then-whole-gt-MOST_INPUT : goal.returns-then-whole-gt-MOST_INPUT
-returns-then-whole-gt-MOST_INPUT c =
+pub returns-then-too_long : goal.returns-then-too_long
+returns-then-too_long c =
     let a = c.args in
     let put = c.put_refusal_line.ensures in
     (λ input h. text_same (input_long (look_said a.table.now a.area.now) input (omega (arith, h.size))) put.0, omega (arith, put.1))

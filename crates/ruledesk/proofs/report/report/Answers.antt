@@ -9,8 +9,8 @@ use Rattle.ruledesk.proofs.TextLaws.{text_same}
 use Rattle.ruledesk.proofs.ProgramLaws.{counted, holds_whole, report_same, text_said, left_refused, long_refused}
 use Rattle.ruledesk.proofs.report.report.Goals as goal
 
-pub returns-then-file-gt-TABLE_BYTES : goal.returns-then-file-gt-TABLE_BYTES
-returns-then-file-gt-TABLE_BYTES c =
+pub returns-then-too_long : goal.returns-then-too_long
+returns-then-too_long c =
     let a = c.args in
     let put = c.put_refusal_line.ensures in
     let long = c.long_table.ensures in record {
