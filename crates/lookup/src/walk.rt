@@ -23,6 +23,7 @@ pub struct Ends {
 }
 
 // Down by the bits of a value, from the top, until a child is missing or the value is used up.
+#[tactic(auto, using(bits::proofs::DigitLaws::bit_small))]
 fn go_down(area: &[u32], root: usize, value: u32, width: usize) -> Walk
     requires { (root < length area.now / record_words) × (width ≤ 32) }
     ensures { reached result ≡ walk_from desk_shape area.now root (bits width value) }

@@ -22,20 +22,20 @@ sound table accepted = ((accepted_sound table accepted).few, all_sound table acc
 
 pub words_needed-words-requires : goal.words_needed-words-requires
 unfolding checked_said
-words_needed-words-requires c = sound c.args.table.now (sym c.check_table.ensures ∙ ap checked_said c.in_default.is)
+words_needed-words-requires c = sound c.args.table.now (sym c.in_default.ensures)
 
 pub returns-then-area-words : goal.returns-then-area-words
 unfolding checked_said
 returns-then-area-words c =
     let a = c.args in
-    short_builds a.table.now a.area.now (sym c.check_table.ensures ∙ ap checked_said c.in_default.is) (omega (arith, c.words_needed-words.ensures.0))
+    short_builds a.table.now a.area.now (sym c.in_default.ensures) (omega (arith, c.words_needed-words.ensures.0))
 
 pub write-requires : goal.write-requires
 unfolding checked_said
 write-requires c =
     let sized = c.words_needed-words.ensures in
     record {
-      sound = sound c.args.table.now (sym c.check_table.ensures ∙ ap checked_said c.in_default.is);
+      sound = sound c.args.table.now (sym c.in_default.ensures);
       roomy = (sized.1, omega (arith, sized.0));
     }
 
@@ -43,5 +43,5 @@ pub returns : goal.returns
 unfolding checked_said
 returns c =
     let a = c.args in
-    let done = done_builds a.table.now a.area.now (sym c.check_table.ensures ∙ ap checked_said c.in_default.is) (omega (arith, c.words_needed-words.ensures.0)) in
+    let done = done_builds a.table.now a.area.now (sym c.in_default.ensures) (omega (arith, c.words_needed-words.ensures.0)) in
     rw (c.words_needed-words.ensures.0, c.write.ensures) done

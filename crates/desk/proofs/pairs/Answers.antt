@@ -16,17 +16,17 @@ pub overflow_mul-count : goal.overflow_mul-count
 unfolding checked_said
 overflow_mul-count c =
     let a = c.args in
-    omega (arith, c.count_pairs-count.ensures, pairs_few a.table.now (sym c.check_table.ensures ∙ ap checked_said c.in_default.is))
+    omega (arith, c.count_pairs-count.ensures, pairs_few a.table.now (sym c.in_default.ensures))
 
 pub returns-then-list-count : goal.returns-then-list-count
 unfolding checked_said
 returns-then-list-count c =
     let a = c.args in
-    short_pairs a.table.now a.list.now (sym c.check_table.ensures ∙ ap checked_said c.in_default.is) (omega (arith, c.count_pairs-count.ensures))
+    short_pairs a.table.now a.list.now (sym c.in_default.ensures) (omega (arith, c.count_pairs-count.ensures))
 
 pub write_pairs-requires : goal.write_pairs-requires
 unfolding checked_said
-write_pairs-requires c = ((sym c.check_table.ensures ∙ ap checked_said c.in_default.is), omega (arith, c.count_pairs-count.ensures))
+write_pairs-requires c = (sym c.in_default.ensures, omega (arith, c.count_pairs-count.ensures))
 
 pub returns : goal.returns
 unfolding checked_said
@@ -34,9 +34,9 @@ returns c =
     let a = c.args in
     let table = a.table.now in
     let list = a.list.now in
-    let done = listed_pairs table list (sym c.check_table.ensures ∙ ap checked_said c.in_default.is) (omega (arith, c.count_pairs-count.ensures)) in
+    let done = listed_pairs table list (sym c.in_default.ensures) (omega (arith, c.count_pairs-count.ensures)) in
     rw (c.count_pairs-count.ensures, c.write_pairs.ensures) done
 
 pub count_pairs-count-requires : goal.count_pairs-count-requires
 unfolding checked_said
-count_pairs-count-requires c = (sym c.check_table.ensures ∙ ap checked_said c.in_default.is)
+count_pairs-count-requires c = sym c.in_default.ensures

@@ -1,5 +1,6 @@
 -- `try_blocks` meets its contract. The loop's invariant: what the blocks that are left give, with the false blocks counted so far, is what all give.
-use mathlib.Core.Path.{sym, ap, ◌∙◌}
+use mathlib.Core.Path.{◌≡◌, sym, ap, ◌∙◌}
+use mathlib.Core.List.{List}
 use mathlib.Core.Option.{some}
 use Prim.Native.Nat.{ℕ, ◌+◌, ◌-◌, ◌*◌}
 use native.Mathlib.Omega.{arith}
@@ -12,6 +13,10 @@ use Rattle.lookup.proofs.BlockTurns.{counted, counted_none, block_past, block_fa
 use Rattle.lookup.proofs.scan.try_blocks.Goals as goal
 use Rattle.lookup.proofs.scan.try_blocks.Goals.{then-is_set+else-hit, else-is_set}
 
+-- the word that is tried is the five aggregates in common
+tried : {t u : ℕ} (vectors : List (List ℕ)) → t ≡ u → scan 32 (bit t) (meet desk_shape vectors) blocks 0 ≡ scan 32 (bit u) (meet desk_shape vectors) blocks 0
+tried vectors e = ap (λ (t : ℕ). scan 32 (bit t) (meet desk_shape vectors) blocks 0) e
+
 pub loop-b-init : goal.loop-b-init
 loop-b-init c = (omega arith, omega arith, counted_none _)
 
@@ -22,9 +27,9 @@ returns-then-hit c =
     let vectors = c.args.vectors in
     ap (λ (n : ℕ). found (some (l.b * 32 + n)) l.falses) (c.lowest.ensures.0 ∙ ap (count_trailing_zeros 32) c.intersect-word.ensures)
     ∙ sym (block_wins (bit c.common_bits-tried.result) (meet desk_shape vectors) l.b c.loop-b-test.true l.falses
-    (sym c.is_set.ensures ∙ c.if-is_set.true) (λ z. c.if-hit.true (c.intersect-word.ensures ∙ z)))
+    (sym c.if-is_set.ensures) (λ z. c.if-hit.true (c.intersect-word.ensures ∙ z)))
     ∙ l.invariant.2
-    ∙ (ap (λ (t : ℕ). scan 32 (bit t) (meet desk_shape c.args.vectors) blocks 0) c.common_bits-tried.ensures)
+    ∙ tried c.args.vectors c.common_bits-tried.ensures
 
 pub loop-b-preserved : goal.loop-b-preserved
 loop-b-preserved c =
@@ -53,4 +58,4 @@ returns c =
     let l = c.loop-b in
     sym (blocks_done (bit c.common_bits-tried.result) (meet desk_shape c.args.vectors) l.b l.falses c.loop-b-test.false)
     ∙ l.invariant.2
-    ∙ (ap (λ (t : ℕ). scan 32 (bit t) (meet desk_shape c.args.vectors) blocks 0) c.common_bits-tried.ensures)
+    ∙ tried c.args.vectors c.common_bits-tried.ensures

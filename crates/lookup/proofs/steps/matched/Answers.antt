@@ -1,11 +1,13 @@
 -- `matched` meets its contract: 9 past the last rule, 5 for an unknown action, else the match.
-use mathlib.Core.Path.{sym, ap, ◌∙◌}
-use Prim.Native.Nat.{◌/◌}
+use mathlib.Core.Path.{◌≡◌, sym, ap, ◌∙◌}
+use mathlib.Core.List.{List}
+use Prim.Native.Nat.{ℕ, ◌/◌, ◌<◌}
 use native.Mathlib.Omega.{arith}
 use lib.ListN.{length}
 use borrow.Author.Tests.{lt-ltb, le-ltb}
 use Rattle.rules.specs.Action.{action_in}
 use Rattle.rules.specs.Refusal.{said}
+use Rattle.rules.specs.Table.{record_size, record_at}
 use Rattle.rules.proofs.TableLaws.{length_record}
 use Rattle.lookup.specs.InCode.{outcome_said, looked_said}
 use Rattle.lookup.proofs.LookLaws.{said_far, said_no_action, said_known}
@@ -31,18 +33,12 @@ returns c =
     sym (said_known a.table.now a.falses a.place _ (lt-ltb a.place (length a.table.now / 24) c.if-table-place.false)
     (sym (c.decode.ensures ∙ ap action_in c.record_at-rule.ensures) ∙ c.in-Known.is))
 
+-- the record that is read is whole
+whole : (table rule : List ℕ) (place : ℕ) → rule ≡ record_at table place → place < length table / 24 → length rule ≡ record_size
+whole table rule place e below = ap length e ∙ length_record table place (omega arith)
+
 pub bounds-rule-18 : goal.bounds-rule-18
-bounds-rule-18 c = omega (
-  arith,
-  (let a = c.args in
-      let below = c.if-table-place.false in
-      ap length c.record_at-rule.ensures ∙ length_record a.table.now a.place (omega arith)),
-)
+bounds-rule-18 c = omega (arith, whole _ _ _ c.record_at-rule.ensures c.if-table-place.false)
 
 pub bounds-rule-19 : goal.bounds-rule-19
-bounds-rule-19 c = omega (
-  arith,
-  (let a = c.args in
-      let below = c.if-table-place.false in
-      ap length c.record_at-rule.ensures ∙ length_record a.table.now a.place (omega arith)),
-)
+bounds-rule-19 c = omega (arith, whole _ _ _ c.record_at-rule.ensures c.if-table-place.false)

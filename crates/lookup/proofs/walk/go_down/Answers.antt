@@ -5,7 +5,6 @@ use Prim.Native.Nat.{ℕ, ◌+◌, ◌-◌, ◌*◌}
 use native.Mathlib.Omega.{arith}
 use lib.ListN.{get_or}
 use Rattle.bits.specs.Path.{bits}
-use Rattle.bits.proofs.DigitLaws.{bit_small}
 use Rattle.area.specs.Shape.{desk_shape, record_words}
 use Rattle.lookup.specs.Walk.{walk_from}
 use Rattle.lookup.specs.InCode.{reached}
@@ -57,12 +56,3 @@ returns c =
     let a = c.args in
     let none_left : a.width - c.loop-j.j ≡ 0 = omega arith in
     ap (λ (k : ℕ). walk_from desk_shape a.area.now c.loop-j.row (bits k a.value)) (sym none_left) ∙ c.loop-j.invariant.2
-
-pub overflow_add-child : goal.overflow_add-child
-overflow_add-child c = omega (arith, c.bit_of.ensures, bit_small c.args.width c.args.value c.loop-j.j)
-
-pub offset_bounds-area-row : goal.offset_bounds-area-row
-offset_bounds-area-row c = omega (arith, c.bit_of.ensures, bit_small c.args.width c.args.value c.loop-j.j)
-
-pub bounds-area-row : goal.bounds-area-row
-bounds-area-row c = omega (arith, c.bit_of.ensures, bit_small c.args.width c.args.value c.loop-j.j)

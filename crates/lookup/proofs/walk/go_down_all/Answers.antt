@@ -1,13 +1,14 @@
 -- `go_down_all` meets its contract. The loop's invariant: the records reached so far, before those that the walks that are left reach, are all.
 use mathlib.Core.Path.{◌≡◌, refl, sym, ap, ap₂, ◌∙◌}
 use mathlib.Core.List.{List, append-nil}
-use mathlib.Core.Option.{some}
+use mathlib.Core.Option.{Option, some}
 use Prim.Native.Nat.{ℕ, ◌+◌, ◌/◌, ◌<◌}
 use native.Mathlib.Numerals.{add-one}
 use native.Mathlib.Omega.{arith}
 use lib.ListN.{length, set, take, drop, length-set, get_or-replicate}
 use lib.Seq.{take_all, take-suc-set}
 use Rattle.bits.specs.Path.{bits}
+use Rattle.rules.specs.Field.{field_at, value_in}
 use Rattle.rules.specs.Header.{header_values}
 use Rattle.area.specs.Shape.{desk_shape, record_words}
 use Rattle.lookup.specs.Walk.{walk_from, walk, ends}
@@ -20,6 +21,12 @@ use Rattle.lookup.proofs.walk.go_down_all.Goals as goal
 pub loop-f-init : goal.loop-f-init
 loop-f-init c = (omega arith, refl, λ f h. omega (arith, get_or-replicate {A = ℕ} 5 f 0 0 h), joined_none _)
 
+-- the walk by the width and the value that are read is field f's
+met : (area header : List ℕ) (f : ℕ) {w v : ℕ} {end : Option ℕ} → end ≡ walk_from desk_shape area f (bits w v)
+    → w ≡ (field_at f).width → v ≡ value_in header (field_at f)
+    → walk_from desk_shape area f (bits (field_at f).width (value_in header (field_at f))) ≡ end
+met area header f e w v = sym (e ∙ ap₂ (λ (w v : ℕ). walk_from desk_shape area f (bits w v)) w v)
+
 pub returns-in_default : goal.returns-in_default
 unfolding reached_all reached walk
 returns-in_default c =
@@ -27,9 +34,7 @@ returns-in_default c =
     let a = c.args in
     let area = a.area.now in
     let header = a.header.now in
-    let damaged = sym (let area = c.args.area.now in
-    c.go_down.ensures
-    ∙ ap₂ (λ (w v : ℕ). walk_from desk_shape area c.loop-f.f (bits w v)) c.width_of-width.ensures.0 c.value_of-value.ensures.0) ∙ ap reached c.in_default.is in (
+    let damaged = met area header l.f c.go_down.ensures c.width_of-width.ensures.0 c.value_of-value.ensures.0 ∙ ap reached c.in_default.is in (
       sym (fields_bad area header (take l.f l.records) l.f (omega arith) damaged) ∙ l.invariant.3,
       l.invariant.2,
     )
@@ -44,16 +49,14 @@ loop-f-preserved c =
     let n = c.in-Ends.row in
     let reaches : reached c.go_down.result ≡ some n = ap reached c.in-Ends.is in
     let path = bits c.width_of-width.result c.value_of-value.result in
-    let met : walk_from desk_shape area l.f path ≡ some n = ◌∙◌ {a = walk_from desk_shape area l.f path} (sym c.go_down.ensures) reaches in
-    let inside : n < length area / record_words = walk_inside area path l.f n (omega arith) met in
+    let ended : walk_from desk_shape area l.f path ≡ some n = ◌∙◌ {a = walk_from desk_shape area l.f path} (sym c.go_down.ensures) reaches in
+    let inside : n < length area / record_words = walk_inside area path l.f n (omega arith) ended in
     let more = ap (λ (j : ℕ). take j (set l.records l.f n)) (add-one l.f) ∙ take-suc-set l.records l.f n (omega arith) in (
       omega arith,
       length-set l.records l.f n ∙ l.invariant.1,
       inside_set area l.records l.f n l.invariant.2 inside,
       ap (λ (ns : List ℕ). joined ns (ends desk_shape area (drop (l.f + 1) (keys_of header)))) more
-          ∙ sym (fields_on area header (take l.f l.records) l.f n (omega arith) (sym (let area = c.args.area.now in
-          c.go_down.ensures
-          ∙ ap₂ (λ (w v : ℕ). walk_from desk_shape area c.loop-f.f (bits w v)) c.width_of-width.ensures.0 c.value_of-value.ensures.0) ∙ reaches))
+          ∙ sym (fields_on area header (take l.f l.records) l.f n (omega arith) (met area header l.f c.go_down.ensures c.width_of-width.ensures.0 c.value_of-value.ensures.0 ∙ reaches))
           ∙ l.invariant.3,
     )
 

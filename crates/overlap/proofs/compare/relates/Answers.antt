@@ -12,14 +12,14 @@ loop-f-init c = let a = c.args in (omega arith, sym (fields_decide a.relation a.
 pub returns-then-not-field_relates : goal.returns-then-not-field_relates
 returns-then-not-field_relates c =
     let a = c.args in
-    sym (field_fails (test a.relation a.a.now a.b.now) c.loop-f.f (omega arith) (sym c.field_relates.ensures ∙ c.if-not-field_relates.true))
+    sym (field_fails (test a.relation a.a.now a.b.now) c.loop-f.f (omega arith) (sym c.if-not-field_relates.ensures))
     ∙ c.loop-f.invariant.1
 
 pub loop-f-preserved : goal.loop-f-preserved
 loop-f-preserved c =
     let a = c.args in (
       omega arith,
-      sym (field_passes (test a.relation a.a.now a.b.now) c.loop-f.f (omega arith) (sym c.field_relates.ensures ∙ c.if-not-field_relates.false))
+      sym (field_passes (test a.relation a.a.now a.b.now) c.loop-f.f (omega arith) (sym c.if-not-field_relates.ensures))
           ∙ c.loop-f.invariant.1,
     )
 

@@ -17,7 +17,7 @@ returns-then-is_overtaken c =
     c.crossing_at.ensures
     ∙ sym
     (row_here (rules_of table) a.places.now (rule_count table) a.lower c.loop-higher.higher (omega arith)
-    (sym c.is_overtaken.ensures ∙ c.if-is_overtaken.true))
+    (sym c.if-is_overtaken.ensures))
     ∙ c.loop-higher.invariant.2
 
 pub loop-higher-preserved : goal.loop-higher-preserved
@@ -28,7 +28,7 @@ loop-higher-preserved c =
       omega arith,
       sym
           (row_later (rules_of table) a.places.now (rule_count table) a.lower c.loop-higher.higher (omega arith)
-          (sym c.is_overtaken.ensures ∙ c.if-is_overtaken.false))
+          (sym c.if-is_overtaken.ensures))
           ∙ c.loop-higher.invariant.2,
     )
 

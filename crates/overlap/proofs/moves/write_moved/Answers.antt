@@ -9,7 +9,7 @@ use lib.Seq.{take-length}
 use borrow.Author.Rules.{rules}
 use borrow.Rule.Slice.PartMut.{put_mid}
 use Rattle.bits.proofs.ListLaws.{part_from}
-use Rattle.rules.specs.Table.{record_size, rule_count, record_at}
+use Rattle.rules.specs.Table.{record_size, record_at}
 use Rattle.overlap.specs.Order.{old_place, moved_table}
 use Rattle.overlap.proofs.OrderLaws.{order}
 use Rattle.overlap.proofs.TableMoves.{accepted_whole}
@@ -18,19 +18,19 @@ use Rattle.overlap.proofs.moves.write_moved.Goals as goal
 
 pub loop-place-init : goal.loop-place-init
 loop-place-init c =
-    (refl, omega arith, omega (arith, (order (rule_count c.args.table.now) c.args.order.now c.requires.1).size, c.requires.2), rw (moved_none c.args.table.now), refl)
+    (refl, omega arith, omega (arith, (order _ _ c.requires.1).size, c.requires.2), rw (moved_none c.args.table.now), refl)
 
 pub overflow_cast-old : goal.overflow_cast-old
 overflow_cast-old c = omega (arith, c.type_inv.order c.loop-place.place)
 
 pub record_at-requires : goal.record_at-requires
 record_at-requires c =
-    let O = (order (rule_count c.args.table.now) c.args.order.now c.requires.1) in
+    let O = order _ _ c.requires.1 in
     omega (arith, O.below c.loop-place.place (omega (arith, O.size)))
 
 pub put_record-requires : goal.put_record-requires
 put_record-requires c =
-    let size = ap length (c.record_at.ensures) ∙ old_record c.args.table.now c.args.order.now (order (rule_count c.args.table.now) c.args.order.now c.requires.1) c.loop-place.place (omega arith) in
+    let size = ap length (c.record_at.ensures) ∙ old_record c.args.table.now c.args.order.now (order _ _ c.requires.1) c.loop-place.place (omega arith) in
     rw (part_from (c.loop-place.place * record_size) c.loop-place.output, length-drop) (omega arith)
 
 pub loop-place-preserved : goal.loop-place-preserved
@@ -48,7 +48,7 @@ loop-place-preserved c =
       ap (put_mid (p * record_size) rest o)
           (c.put_record.ensures ∙ ap (λ (r : List ℕ). r ++ drop (length r) (take rest (drop (p * record_size) o))) (c.record_at.ensures))
           ∙ put_one (moved_table table (take p os)) rule c.args.output.now o (p * record_size) c.loop-place.invariant.3
-          (moved_front table os (order (rule_count c.args.table.now) c.args.order.now c.requires.1) p (omega arith)) (old_record table os (order (rule_count c.args.table.now) c.args.order.now c.requires.1) p (omega arith))
+          (moved_front table os (order _ _ c.requires.1) p (omega arith)) (old_record table os (order _ _ c.requires.1) p (omega arith))
           ∙ rw (next, ← moved_more table os p (omega arith)),
       search rules,
     )
@@ -57,5 +57,5 @@ pub returns : goal.returns
 returns c =
     let os = c.args.order.now in
     let e : c.loop-place.place ≡ length os = omega arith in
-    let whole : length os * record_size ≡ length c.args.table.now = omega (arith, (order (rule_count c.args.table.now) c.args.order.now c.requires.1).size, accepted_whole c.args.table.now c.requires.0) in
+    let whole : length os * record_size ≡ length c.args.table.now = omega (arith, (order _ _ c.requires.1).size, accepted_whole c.args.table.now c.requires.0) in
     c.loop-place.invariant.3 ∙ rw (e, take-length, whole)

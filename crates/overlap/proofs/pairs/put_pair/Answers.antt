@@ -1,5 +1,5 @@
 -- `put_pair` meets its contract: a listed pair's two words are written, and otherwise none.
-use mathlib.Core.Path.{◌≡◌, sym, ap, ◌∙◌}
+use mathlib.Core.Path.{◌≡◌, sym, ap}
 use mathlib.Core.List.{[], ◌∷◌}
 use native.Mathlib.Omega.{arith}
 use lib.ListN.{length, length-set}
@@ -14,7 +14,7 @@ pub returns-then-not-is_listed : goal.returns-then-not-is_listed
 unfolding entries
 returns-then-not-is_listed c =
     let a = c.args in
-    let words = ap entries (none_listed a.table.now a.lower a.higher (sym c.is_listed.ensures ∙ c.if-not-is_listed.true)) in
+    let words = ap entries (none_listed a.table.now a.lower a.higher (sym c.if-not-is_listed.ensures)) in
     rw words (writes_nothing a.list.now a.at)
 
 -- where the pair is listed
@@ -22,7 +22,7 @@ words : (c : goal.Else-not-is_listed) → let a = c.args in entries (listed_row 
 unfolding entries
 words c =
     let a = c.args in
-    ap entries (one_listed a.table.now a.lower a.higher (sym c.is_listed.ensures ∙ c.if-not-is_listed.false))
+    ap entries (one_listed a.table.now a.lower a.higher (sym c.if-not-is_listed.ensures))
 
 pub overflow_cast-list : goal.overflow_cast-list
 overflow_cast-list c = omega (arith, (accepted_sound c.args.table.now c.requires.accepted.0).few)

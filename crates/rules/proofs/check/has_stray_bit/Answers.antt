@@ -1,11 +1,12 @@
 -- `has_stray_bit` meets its contract. The loop's invariant: the fields that are left decide.
-use mathlib.Core.Path.{refl, sym, ◌∙◌}
-use Prim.Native.Nat.{◌≤◌}
+use mathlib.Core.Path.{◌≡◌, refl, sym, ◌∙◌}
+use mathlib.Core.List.{List}
+use Prim.Native.Nat.{ℕ, ◌≤◌}
 use native.Mathlib.Omega.{arith}
 use lib.Dec.{ltb}
 use borrow.Author.Tests.{ltb-false}
 use Rattle.bits.specs.Path.{stray}
-use Rattle.rules.specs.Field.{field_at, length_in}
+use Rattle.rules.specs.Field.{field_at, value_in, length_in}
 use Rattle.rules.specs.Table.{long_prefix, stray_bit}
 use Rattle.rules.proofs.FieldLaws.{field_over, field_stop, field_on, field_none}
 use Rattle.rules.proofs.check.has_stray_bit.Invariants.{strays}
@@ -29,22 +30,23 @@ is_stray-requires c =
       rw width c.value_of.ensures.1,
     )
 
+-- what is tested is the test of field f
+here : {width value len : ℕ} (rule : List ℕ) (f : ℕ) → width ≡ (field_at f).width → value ≡ value_in rule (field_at f)
+    → len ≡ length_in rule (field_at f) → stray width value len ≡ strays rule (field_at f)
+here rule f width value len = λ i. stray (width i) (value i) (len i)
+
 pub returns-then-is_stray : goal.returns-then-is_stray
 returns-then-is_stray c =
     let f = c.loop-f.f in
     let b = c.args.rule.now in
-    sym (field_stop (strays b) f (omega arith) ((sym
-    (c.is_stray.ensures
-    ∙ (λ i. stray (c.width_of.ensures.0 i) (c.value_of.ensures.0 i) (c.length_of.ensures i)))) ∙ c.if-is_stray.true)) ∙ c.loop-f.invariant.1
+    sym (field_stop (strays b) f (omega arith) (sym (c.if-is_stray.ensures ∙ here b f c.width_of.ensures.0 c.value_of.ensures.0 c.length_of.ensures))) ∙ c.loop-f.invariant.1
 
 pub loop-f-preserved : goal.loop-f-preserved
 loop-f-preserved c =
     let f = c.loop-f.f in
     let b = c.args.rule.now in (
       omega arith,
-      sym (field_on (strays b) f (omega arith) ((sym
-          (c.is_stray.ensures
-          ∙ (λ i. stray (c.width_of.ensures.0 i) (c.value_of.ensures.0 i) (c.length_of.ensures i)))) ∙ c.if-is_stray.false)) ∙ c.loop-f.invariant.1,
+      sym (field_on (strays b) f (omega arith) (sym (c.if-is_stray.ensures ∙ here b f c.width_of.ensures.0 c.value_of.ensures.0 c.length_of.ensures))) ∙ c.loop-f.invariant.1,
     )
 
 pub returns : goal.returns
