@@ -53,6 +53,10 @@ module _ (n m : ℕ) where
   unfolding Kids
   child_ready k b a whole hk hb s = (hb, omega (arith, s.long), omega (arith, s.long, s.kids k b hk hb))
 
+pub hand_none : (a : List ℕ) → handed 0 a ≡ a
+unfolding handed upto
+hand_none a = refl
+
 pub hand_more : (k : ℕ) (a : List ℕ) → to_child k 1 (to_child k 0 (handed k a)) ≡ handed (k + 1) a
 unfolding handed upto
 hand_more k a = sym (upto_more (λ j x. to_child j 1 (to_child j 0 x)) k a)
@@ -66,6 +70,13 @@ or_elsewhere k c w r v a hw hv ne =
 or_here : (k c w : ℕ) (a : List ℕ) → w < blocks → record_words * c + record_words ≤ length a → vector_word (or_word k c w a) c w ≡ bit_or (vector_word a c w) (vector_word a k w)
 or_here k c w a hw h = get_or-set_same a (record_words * c + vector_start + w) _ 0 (omega arith)
 
+-- a word that is not yet reached is as it was, in every record
+pub or_later : (k c n r v : ℕ) (a : List ℕ) → n ≤ v → v < blocks → vector_word (upto (or_word k c) n a) r v ≡ vector_word a r v
+unfolding upto
+or_later k c zero r v a hn hv = refl
+or_later k c (suc n) r v a hn hv =
+    or_elsewhere k c n r v (upto (or_word k c) n a) (omega arith) hv (λ e q. omega arith) ∙ or_later k c n r v a (omega arith) hv
+
 or_length : (k c n : ℕ) (a : List ℕ) → length (upto (or_word k c) n a) ≡ length a
 or_length k c n a = upto_keeps (or_word k c) (λ x. length x ≡ length a) n a (λ j x h e. length-set x _ _ ∙ e) refl
 
@@ -74,11 +85,6 @@ module _ (k c : ℕ) (a : List ℕ) (kc : k ≡ c → ⊥) (room : record_words 
   unfolding upto
   others zero r v hn hv ne = refl
   others (suc n) r v hn hv ne = or_elsewhere k c n r v (upto (or_word k c) n a) hn hv (λ e q. ne e) ∙ others n r v (omega arith) hv ne
-
-  later : (n v : ℕ) → n ≤ v → v < blocks → vector_word (upto (or_word k c) n a) c v ≡ vector_word a c v
-  unfolding upto
-  later zero v hn hv = refl
-  later (suc n) v hn hv = or_elsewhere k c n c v (upto (or_word k c) n a) (omega arith) hv (λ e q. omega arith) ∙ later n v (omega arith) hv
 
   done : (n v : ℕ) → v < n → n ≤ blocks → vector_word (upto (or_word k c) n a) c v ≡ bit_or (vector_word a c v) (vector_word a k v)
   unfolding upto
@@ -89,7 +95,7 @@ module _ (k c : ℕ) (a : List ℕ) (kc : k ≡ c → ⊥) (room : record_words 
       (λ (e : v ≡ n).
       rw e
       (or_here k c n (upto (or_word k c) n a) hn (omega (arith, or_length k c n a))
-      ∙ rw (later n n (le_refl n) hn, others n k n (omega arith) hn kc)))
+      ∙ rw (or_later k c n c n a (le_refl n) hn, or_later k c n k n a (le_refl n) hn)))
       (λ (l : v < n). or_elsewhere k c n c v (upto (or_word k c) n a) hn (omega arith) (λ e q. omega arith) ∙ done n v l (omega arith))
       (eq-or-lt_of_le {n = v} {m = n} (omega arith))
 

@@ -9,6 +9,8 @@ use native.Mathlib.Nat.{eq-zero-or-pos, eq-or-lt_of_le, zero-add, one-mul}
 use native.Mathlib.Omega.{arith}
 use lib.Bits.{bit_or, or_shifted_r}
 use lib.ListN.{length, get_or, set, length-set}
+use Rattle.std.specs.Prelude.{slice_range}
+use Rattle.std.proofs.lemmas.List.Edits.{length-between, get_or-between}
 use lib.Seq.{get_or-set_same, get_or-set_other}
 use borrow.Author.Tests.{eq-eqb, ne_eqb}
 use Rattle.bits.specs.Word.{digit, word_of, nonzero}
@@ -29,13 +31,33 @@ pub mark_some : (x w g : ℕ) → (x ≡ 0 → ⊥) → marked x w g ≡ bit_or 
 unfolding marked
 mark_some x w g e = rw (ne_eqb x 0 e)
 
+pub sum_none : (a : List ℕ) (at : ℕ) → sum_at a at 0 ≡ 0
+unfolding sum_at upto
+sum_none a at = refl
+
 pub sum_more : (a : List ℕ) (at n : ℕ) → marked (get_or a (at + n) 0) n (sum_at a at n) ≡ sum_at a at (n + 1)
 unfolding sum_at
 sum_more a at n = sym (upto_more (λ w g. marked (get_or a (at + w) 0) w g) n 0)
 
+pub summed_none : (a : List ℕ) → summed 0 a ≡ a
+unfolding summed upto
+summed_none a = refl
+
 pub summed_more : (a : List ℕ) (k : ℕ) → set (summed k a) (record_words * k + aggregate_start) (sum_at (summed k a) (record_words * k + vector_start) blocks) ≡ summed (k + 1) a
 unfolding summed
 summed_more a k = sym (upto_more (λ j x. set x (record_words * j + aggregate_start) (sum_at x (record_words * j + vector_start) blocks)) k a)
+
+-- a sum is that of the words it reads, wherever they stand
+sum_same : (a b : List ℕ) (at to n : ℕ) → ((w : ℕ) → w < n → get_or a (at + w) 0 ≡ get_or b (to + w) 0) → sum_at a at n ≡ sum_at b to n
+unfolding sum_at upto
+sum_same a b at to zero e = refl
+sum_same a b at to (suc n) e = ap₂ (λ (x s : ℕ). marked x n s) (e n (omega arith)) (sum_same a b at to n (λ w h. e w (omega arith)))
+
+-- so a part of an area has the sum of the words from where it starts
+pub sum_of_part : (a : List ℕ) (at n : ℕ) → at + n ≤ length a → sum_at (slice_range a at (at + n)) 0 (length (slice_range a at (at + n))) ≡ sum_at a at n
+sum_of_part a at n h =
+    let long : length (slice_range a at (at + n)) ≡ n = length-between a at (at + n) h ∙ omega arith in
+    rw long (sum_same _ a 0 at n (λ w l. rw zero-add (get_or-between a at (at + n) w 0 (omega arith))))
 
 -- ---- what a sum says
 
@@ -91,12 +113,6 @@ unfolding summed upto
 summed_beyond j zero a h = refl
 summed_beyond j (suc n) a h = get_or-set_other (summed n a) (record_words * n + aggregate_start) j _ 0 (λ e. omega arith) ∙ summed_beyond j n a (omega arith)
 
--- the vector words that a sum reads stay, so that it is the sum of what was there
-sum_same : (a b : List ℕ) (at n : ℕ) → ((w : ℕ) → w < n → get_or a (at + w) 0 ≡ get_or b (at + w) 0) → sum_at a at n ≡ sum_at b at n
-unfolding sum_at upto
-sum_same a b at zero e = refl
-sum_same a b at (suc n) e = ap₂ (λ (x s : ℕ). marked x n s) (e n (omega arith)) (sum_same a b at n (λ w h. e w (omega arith)))
-
 pub summed_at : (k n : ℕ) (a : List ℕ) → k < n → record_words * n ≤ length a → get_or (summed n a) (record_words * k + aggregate_start) 0 ≡ sum_at a (record_words * k + vector_start) blocks
 unfolding summed upto
 summed_at k zero a h room = absurd (omega arith)
@@ -105,7 +121,7 @@ summed_at k (suc n) a h room =
     (λ (e : k ≡ n).
     ap (λ (x : ℕ). get_or (set (summed n a) (record_words * n + aggregate_start) (sum_at (summed n a) (record_words * n + vector_start) blocks)) (record_words * x + aggregate_start) 0) e
     ∙ get_or-set_same (summed n a) (record_words * n + aggregate_start) _ 0 (omega (arith, summed_length n a))
-    ∙ sum_same (summed n a) a (record_words * n + vector_start) blocks (λ w hw. summed_other (record_words * n + vector_start + w) a (λ m q. omega arith) n)
+    ∙ sum_same (summed n a) a (record_words * n + vector_start) (record_words * n + vector_start) blocks (λ w hw. summed_other (record_words * n + vector_start + w) a (λ m q. omega arith) n)
     ∙ ap (λ (x : ℕ). sum_at a (record_words * x + vector_start) blocks) (sym e))
     (λ (l : k < n). get_or-set_other (summed n a) (record_words * n + aggregate_start) (record_words * k + aggregate_start) _ 0 (λ q. omega arith) ∙ summed_at k n a l (omega arith))
     (eq-or-lt_of_le {n = k} {m = n} (omega arith))

@@ -3,28 +3,23 @@
 use mathlib.Core.Path.{◌≡◌, sym, ap, ◌∙◌}
 use mathlib.Core.List.{List, ◌++◌, append_assoc}
 use Prim.Native.Nat.{ℕ, ◌+◌, ◌-◌, ◌≤◌, ◌<◌}
-use native.Mathlib.Nat.{sub_self}
-use native.Mathlib.Numerals.{add-one}
 use native.Mathlib.Omega.{arith}
-use lib.ListN.{length, get_or, set, take, drop, replicate, length-append, length-take, length-drop, length-replicate, get_or-replicate, get_or-append, replicate-append-replicate, take-append-drop}
-use lib.Seq.{drop-cons, set_at, length-take-le, get_or-take, get_or-append-add, get_or-drop}
+use lib.ListN.{length, get_or, set, take, drop, replicate, length-append, length-take, length-drop, length-replicate, get_or-replicate, get_or-append}
+use lib.Seq.{set-append_left, take-set-lt, drop-set-lt, length-take-le, get_or-take, get_or-append-add, get_or-drop}
 use Rattle.area.specs.Grow.{zeroed}
 
-module _ (start i : ℕ) (a : List ℕ) (h : start ≤ i) where
-  pub length_zeroed : i ≤ length a → length (zeroed start i a) ≡ length a
-  unfolding zeroed
-  length_zeroed l = simp (length-append, length-take, length-replicate, length-drop) (omega arith)
-
-  pub zeroed_more : i < length a → set (zeroed start i a) i 0 ≡ zeroed start (i + 1) a
-  unfolding zeroed
-  zeroed_more l =
-      let front : length (take start a ++ replicate (i - start) 0) ≡ i = simp (length-append, length-take, length-replicate) (omega arith) in
-      let n : i + 1 - start ≡ (i - start) + 1 = omega arith in
-      rw (drop-cons a i 0, ← append_assoc, set_at _ _ _ _ i front, n, ← replicate-append-replicate, add-one) (simp append_assoc)
-
-pub zeroed_none : (start : ℕ) (a : List ℕ) → zeroed start start a ≡ a
+pub length_zeroed : (start end : ℕ) (a : List ℕ) → start ≤ end → end ≤ length a → length (zeroed start end a) ≡ length a
 unfolding zeroed
-zeroed_none start a = simp (sub_self, take-append-drop)
+length_zeroed start end a h l = simp (length-append, length-take, length-replicate, length-drop) (omega arith)
+
+-- what is set before the zeros stays as it is set
+pub zeroed_after_set : (start end i v : ℕ) (a : List ℕ) → i < start → start ≤ end → end ≤ length a
+    → set (zeroed start end a) i v ≡ zeroed start end (set a i v)
+unfolding zeroed
+zeroed_after_set start end i v a before h l =
+    let front : i < length (take start a) = simp length-take (omega arith) in
+    let past : i < end = omega arith in
+    rw (set-append_left, take-set-lt, drop-set-lt)
 
 module _ (start end k : ℕ) (a : List ℕ) (h : start ≤ end) (l : end ≤ length a) where
   pub zeroed_below : k < start → get_or (zeroed start end a) k 0 ≡ get_or a k 0

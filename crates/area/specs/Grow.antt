@@ -2,6 +2,7 @@
 -- Assumes nothing.
 use Rattle.std.specs.Prelude.{cond, List, ◌++◌, ℕ, ◌+◌, ◌-◌, ◌*◌, ◌/◌, ◌%◌, ◌^◌, ◌≤◌, ◌<◌, eqb, length, get_or, set, take, drop, replicate}
 use Rattle.std.specs.Int.Bits.{bit_or}
+use Rattle.std.specs.Coded.{le_prop, Π_prop, →_prop}
 use Rattle.bits.specs.Path.{bit_of}
 use Rattle.area.specs.Shape.{record_words, vector_start}
 use Rattle.area.specs.Upto.{upto}
@@ -49,6 +50,11 @@ inserted w v n i s = mk (with_bit (walked w v n s).at i (walked w v n s).area) (
 -- each child word of the first n records is below n
 unfoldable pub Kids : List ℕ → ℕ → Type 0
 Kids a n = (k b : ℕ) → k < n → b < 2 → get_or a (record_words * k + b) 0 < n
+
+-- which holds in one way only, as a fact beside fields must
+pub Kids-prop : (a : List ℕ) (n : ℕ) → IsProp (Kids a n)
+unfolding Kids
+Kids-prop a n = Π_prop (λ k. Π_prop (λ b. →_prop (→_prop le_prop)))
 
 -- the roots and all records so far lie in the area and lead to one another alone, and the walk stands at one of them
 pub record Ready (s : State) : Type 0 where

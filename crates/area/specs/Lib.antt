@@ -3,5 +3,6 @@
 pub mod Shape
 pub mod Upto
 pub mod Grow
+pub mod Growing
 pub mod Hand
 pub mod Sums

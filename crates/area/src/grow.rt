@@ -1,92 +1,94 @@
 // Growing: the records of a path are found or made, and a rule's bit is set at the path's end.
 ghost use Rattle.std.specs.Prelude.{◌≡◌, ◌+◌, ◌*◌, ◌≤◌, ◌<◌, length};
 ghost use Rattle.area.specs.Shape.{record_words};
-ghost use Rattle.area.specs.Grow.{zeroed, mk, down, walked, inserted, with_bit, Ready, Roomy};
+ghost use Rattle.area.specs.Grow.{zeroed, mk, down, walked, inserted, with_bit, Kids, Kids-prop};
 
 use crate::{RECORD_WORDS, VECTOR_START};
-
-// Where a walk stands, and the number of the next record to be made.
-#[derive(Clone, Copy)]
-pub struct Spot {
-    pub at: usize,
-    pub next: usize,
-}
+use bits::Prefix;
 
 // Zeros go to the words from `start` up to, not including, `end`.
 pub fn clear(area: &mut [u32], start: usize, end: usize)
     requires { (start ≤ end) × (end ≤ length area.old) }
     ensures { area.new ≡ zeroed start end area.old }
 {
-    for i in start..end {
-        area[i] = 0;
-    }
+    area[start..end].fill(0);
 }
 
-// One step down by a bit. A child that is missing is made: it is record `next`, cleared.
-fn step(area: &mut [u32], at: usize, next: usize, bit: usize) -> Spot
-    requires { (bit < 2) × Ready (mk area.old at next) × Roomy (down bit (mk area.old at next)) (length area.old) }
-    ensures { mk area.new result.at result.next ≡ down bit (mk area.old at next) }
-{
-    let word = RECORD_WORDS * at + bit;
-    let child = area[word] as usize;
-    if child == 0 {
-        area[word] = next as u32;
-        let start = RECORD_WORDS * next;
-        clear(area, start, start + RECORD_WORDS);
-        Spot {
-            at: next,
-            next: next + 1,
+// An area whose records grow: its first `next` records are made, and each one's children are among them.
+#[derive(Drop)]
+pub struct Growth<'a> {
+    pub words: &'a mut [u32],
+    pub next: usize,
+    ghost roots: { 5 ≤ next },
+    ghost whole: { record_words * next ≤ length words.now },
+    ghost kids: { Kids words.now next } by { Kids-prop words.now next },
+}
+
+impl Growth<'_> {
+    ghost use Rattle.area.specs.Growing.{standing, HasRoom, IsGrown};
+
+    // Makes the next record, cleared.
+    fn make(&mut self) -> usize
+        requires { record_words * (self.old.next + 1) ≤ length self.old.words.now }
+        ensures same_words { self.new.words.ghost_name ≡ self.old.words.ghost_name }
+        ensures next { (result ≡ self.old.next) × (self.new.next ≡ result + 1) }
+        ensures cleared { self.new.words.now ≡ zeroed (record_words * result) (record_words * result + record_words) self.old.words.now }
+    {
+        let made = self.next;
+        let start = RECORD_WORDS * made;
+        clear(self.words, start, start + RECORD_WORDS);
+        self.next += 1;
+        made
+    }
+
+    // One step down by a bit. A child that is missing is made first.
+    fn step(&mut self, at: usize, bit: usize) -> usize
+        requires { (bit < 2) × (at < self.old.next) × HasRoom self.old (down bit (standing self.old at)) }
+        ensures same_words { self.new.words.ghost_name ≡ self.old.words.ghost_name }
+        ensures moved { standing self.new result ≡ down bit (standing self.old at) }
+    {
+        let word = RECORD_WORDS * at + bit;
+        let child = self.words[word] as usize;
+        if child != 0 {
+            return child;
         }
-    } else {
-        Spot { at: child, next }
+        let made = self.make();
+        self.words[word] = made as u32;
+        made
     }
-}
 
-// Down by the top `len` bits of a value, from a field's root.
-fn walk(area: &mut [u32], root: usize, next: usize, value: u32, width: usize, len: usize) -> Spot
-    requires len_le_width { (len ≤ width) × (width ≤ 32) }
-    requires ready { Ready (mk area.old root next) }
-    requires roomy { Roomy (walked width value len (mk area.old root next)) (length area.old) }
-    ensures { mk area.new result.at result.next ≡ walked width value len (mk area.old root next) }
-{
-    let mut at = root;
-    let mut free = next;
-    for j in 0..len {
-        let bit = bits::bit_of(value, width, j);
-        let spot = step(area, at, free, bit);
-        at = spot.at;
-        free = spot.next;
+    // Down by a prefix's bits, from a field's root.
+    fn walk(&mut self, root: usize, prefix: Prefix) -> usize
+        requires { (root < self.old.next) × HasRoom self.old (walked prefix.width prefix.value prefix.len (standing self.old root)) }
+        ensures same_words { self.new.words.ghost_name ≡ self.old.words.ghost_name }
+        ensures moved { standing self.new result ≡ walked prefix.width prefix.value prefix.len (standing self.old root) }
+    {
+        let mut at = root;
+        // By number: a bit's number is what is asked of the prefix.
+        for j in 0..prefix.len {
+            at = self.step(at, prefix.bit(j));
+        }
+        at
     }
-    Spot { at, next: free }
-}
 
-// A rule's bit in the vector of record `at`.
-fn set_bit(area: &mut [u32], at: usize, rule: usize)
-    requires { (record_words * at + record_words ≤ length area.old) × (rule < 256) }
-    ensures { area.new ≡ with_bit at rule area.old }
-{
-    let word = RECORD_WORDS * at + VECTOR_START + rule / 32;
-    area[word] |= 1u32 << (rule % 32);
-}
+    // A rule's bit in the vector of record `at`.
+    fn set_bit(&mut self, at: usize, rule: usize)
+        requires { (at < self.old.next) × (rule < 256) }
+        ensures same_words { self.new.words.ghost_name ≡ self.old.words.ghost_name }
+        ensures set { standing self.new at ≡ mk (with_bit at rule self.old.words.now) at self.old.next }
+    {
+        let word = RECORD_WORDS * at + VECTOR_START + rule / 32;
+        self.words[word] |= 1u32 << (rule % 32);
+    }
 
-// A rule's prefix goes into a field's records: its path, and the rule's bit at the path's end.
-// Answers the number of the next record.
-pub fn insert(
-    area: &mut [u32],
-    root: usize,
-    next: usize,
-    value: u32,
-    width: usize,
-    len: usize,
-    rule: usize,
-) -> usize
-    requires len_le_width { (len ≤ width) × (width ≤ 32) × (rule < 256) }
-    requires ready { Ready (mk area.old root next) }
-    requires roomy { Roomy (walked width value len (mk area.old root next)) (length area.old) }
-    ensures { (area.new ≡ (inserted width value len rule (mk area.old root next)).area) × (result ≡ (inserted width value len rule (mk area.old root next)).next) }
-{
-    let spot = walk(area, root, next, value, width, len);
-    let at = spot.at;
-    set_bit(area, at, rule);
-    spot.next
+    // A rule's prefix goes into a field's records: its path, and the rule's bit at the path's end.
+    pub fn insert(&mut self, root: usize, prefix: Prefix, rule: usize)
+        requires in_reach { (root < self.old.next) × (rule < 256) }
+        requires room { HasRoom self.old (walked prefix.width prefix.value prefix.len (standing self.old root)) }
+        ensures same_words { self.new.words.ghost_name ≡ self.old.words.ghost_name }
+        ensures inserted { IsGrown self.new (inserted prefix.width prefix.value prefix.len rule (standing self.old root)) }
+    {
+        let at = self.walk(root, prefix);
+        self.set_bit(at, rule);
+    }
 }

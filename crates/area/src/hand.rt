@@ -5,18 +5,17 @@ ghost use Rattle.area.specs.Shape.{record_words};
 ghost use Rattle.area.specs.Grow.{Kids};
 ghost use Rattle.area.specs.Hand.{joined, to_child, handed};
 
-use crate::{BLOCKS, RECORD_WORDS, VECTOR_START};
+use crate::{RECORD_WORDS, VECTOR_START, vector};
 
 // Record k's vector goes into record c's.
 fn or_into(area: &mut [u32], k: usize, c: usize)
     requires { (record_words * k + record_words ≤ length area.old) × (record_words * c + record_words ≤ length area.old) }
     ensures { area.new ≡ joined k c area.old }
 {
-    let parent = RECORD_WORDS * k + VECTOR_START;
+    let words = *vector(area, k);
     let child = RECORD_WORDS * c + VECTOR_START;
-    for w in 0..BLOCKS {
-        let word = area[parent + w];
-        area[child + w] |= word;
+    for (w, word) in words.iter().enumerate() {
+        area[child + w] |= *word;
     }
 }
 
@@ -36,6 +35,7 @@ pub fn hand_on(area: &mut [u32], count: usize)
     requires { (record_words * count ≤ length area.old) × Kids area.old count }
     ensures { area.new ≡ handed count area.old }
 {
+    // By number: a record's children stand elsewhere in the same words.
     for k in 0..count {
         to_child(area, k, 0);
         to_child(area, k, 1);

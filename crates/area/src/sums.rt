@@ -3,7 +3,7 @@ ghost use Rattle.std.specs.Prelude.{◌≡◌, ◌+◌, ◌*◌, ◌≤◌, ◌<
 ghost use Rattle.area.specs.Shape.{record_words};
 ghost use Rattle.area.specs.Sums.{marked, sum_at, summed};
 
-use crate::{AGGREGATE_START, BLOCKS, RECORD_WORDS, VECTOR_START};
+use crate::{AGGREGATE_START, RECORD_WORDS, vector};
 
 // `sum` with bit w set where the word is not zero.
 fn mark(sum: u32, word: u32, w: usize) -> u32
@@ -16,14 +16,14 @@ fn mark(sum: u32, word: u32, w: usize) -> u32
     sum | (1u32 << w)
 }
 
-// The aggregate of the n words that start at `at`.
-fn aggregate(area: &[u32], at: usize, n: usize) -> u32
-    requires { (n ≤ 32) × (at + n ≤ length area.now) }
-    ensures { result ≡ sum_at area.now at n }
+// The aggregate of a vector's words.
+fn aggregate(words: &[u32]) -> u32
+    requires { length words.now ≤ 32 }
+    ensures { result ≡ sum_at words.now 0 (length words.now) }
 {
     let mut sum: u32 = 0;
-    for w in 0..n {
-        sum = mark(sum, area[at + w], w);
+    for (w, word) in words.iter().enumerate() {
+        sum = mark(sum, *word, w);
     }
     sum
 }
@@ -33,8 +33,9 @@ pub fn aggregate_all(area: &mut [u32], count: usize)
     requires { record_words * count ≤ length area.old }
     ensures { area.new ≡ summed count area.old }
 {
+    // By number: what `chunks_exact_mut` lends is unknown to a proof once it is written.
     for k in 0..count {
-        let sum = aggregate(area, RECORD_WORDS * k + VECTOR_START, BLOCKS);
+        let sum = aggregate(vector(area, k));
         area[RECORD_WORDS * k + AGGREGATE_START] = sum;
     }
 }

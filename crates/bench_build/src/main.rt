@@ -2,50 +2,44 @@
 // microseconds that 100 builds took to standard error.
 #![tactic(auto)]
 
-use desk::Built;
-use samples::Pattern;
+use rules::RECORD_BYTES;
+use samples::{Pattern, TABLE_BYTES};
 use std::io;
 use std::time::CpuClock;
-use trial::report_of;
 
 fn main(rt: HostRuntime) -> io::Result<()> {
-    let mut table = [0u8; 6144];
+    let mut table = [0; TABLE_BYTES];
     samples::fill(&mut table, Pattern::Traffic);
     let mut area = samples::large_area();
-    measure(&rt, &table, 32, &mut area)?;
-    measure(&rt, &table, 64, &mut area)?;
-    measure(&rt, &table, 128, &mut area)?;
-    measure(&rt, &table, 256, &mut area)
+    for part in [
+        &table[..32 * RECORD_BYTES],
+        &table[..64 * RECORD_BYTES],
+        &table[..128 * RECORD_BYTES],
+        &table[..],
+    ] {
+        measure(&rt, part, &mut area)?;
+    }
+    Ok(())
 }
 
 fn measure(
     rt: &(impl Print + Eprint + CpuClock),
     table: &[u8],
-    rules: usize,
     area: &mut [u32],
 ) -> io::Result<()> {
-    if rules <= table.len() / 24 {
-        let part = &table[0..rules * 24];
-        let start = trial::clock(rt)?;
-        repeat(part, area);
-        let time = trial::since(rt, start)?;
-        eprintln!(rt; "{rules} rules, microseconds for 100 builds: {time}")?;
-        let words = taken(desk::build(part, area));
-        report_of(rt, rules, " rules, words: ", words)?;
-    }
-    Ok(())
+    let rules = table.len() / RECORD_BYTES;
+    let start = trial::clock(rt)?;
+    build_often(table, area);
+    let time = trial::since(rt, start)?;
+    eprintln!(rt; "{rules} rules, microseconds for 100 builds: {time}")?;
+    println!(rt;
+        "{rules} rules, words: {}",
+        desk::build(table, area).unwrap_or(0)
+    )
 }
 
-fn repeat(table: &[u8], area: &mut [u32]) {
-    for _ in 0..100usize {
-        taken(desk::build(table, area));
-    }
-}
-
-// The words that a build took, 0 where it was refused.
-fn taken(built: Built) -> u64 {
-    match built {
-        Built::Done(words) => words as u64,
-        Built::Refused(_) => 0,
+fn build_often(table: &[u8], area: &mut [u32]) {
+    for _ in 0..100 {
+        let _ = desk::build(table, area);
     }
 }

@@ -10,7 +10,7 @@ use native.Mathlib.Numerals.{add-one}
 use native.Mathlib.Omega.{arith}
 use lib.Dec.{eqb, eqb-suc-zero}
 use lib.ListN.{length, get_or, take, drop, length-take, length-drop, get_or-eq_default}
-use lib.Seq.{take-suc, get_or-take, get_or-drop}
+use lib.Seq.{take_all, take-suc, get_or-take, get_or-drop}
 use lib.Pow.{pow-add, pow_mono}
 use borrow.Author.Tests.{ne_eqb}
 use Rattle.bits.specs.Tests.{any}
@@ -52,11 +52,22 @@ pub number_none : (bytes : List ℕ) (at : ℕ) → number_at bytes at 0 ≡ 0
 unfolding number_at number number_from
 number_none bytes at = refl
 
+-- all bytes of a list
+pub number_whole : (bytes : List ℕ) (n : ℕ) → length bytes ≤ n → number_at bytes 0 n ≡ number bytes
+unfolding number_at
+number_whole bytes n h = ap number (take_all n bytes h)
+
 pub number_more : (bytes : List ℕ) (at i : ℕ) → at + i < length bytes → number_at bytes at i * 256 + get_or bytes (at + i) 0 ≡ number_at bytes at (i + 1)
 unfolding number_at number
 number_more bytes at i h =
     let inside : i < length (drop at bytes) = omega (arith, length-drop at bytes) in
     rw (add-one i, take-suc (drop at bytes) i 0 inside, get_or-drop at bytes i 0) (sym (from_snoc 0 (take i (drop at bytes)) (get_or bytes (at + i) 0)))
+
+-- the same of the first bytes of a list
+pub number_next : (bytes : List ℕ) (i : ℕ) → i < length bytes → number_at bytes 0 i * 256 + get_or bytes i 0 ≡ number_at bytes 0 (i + 1)
+number_next bytes i h =
+    let e : 0 + i ≡ i = omega arith in
+    ap (λ k. number_at bytes 0 i * 256 + get_or bytes k 0) (sym e) ∙ number_more bytes 0 i (rw e h)
 
 -- ---- how large
 

@@ -1,32 +1,15 @@
--- Stores into a list: a list that is filled from the front, a store into a part of a list, and what a store leaves true of every element.
+-- Stores into a list: a store into a part of a list, and what a store leaves true of every element.
 -- Assumes nothing.
-use mathlib.Core.Path.{◌≡◌, sym, ap, ap₂, ◌∙◌}
+use mathlib.Core.Path.{◌≡◌, sym, ap, ◌∙◌}
 use mathlib.Core.Logic.{⊎_elim}
-use mathlib.Core.List.{List, [], ◌∷◌, ◌++◌}
+use mathlib.Core.List.{List, [], ◌∷◌}
 use Prim.Native.Nat.{ℕ, zero, suc, ◌+◌, ◌<◌}
-use native.Mathlib.Numerals.{add-one}
 use native.Mathlib.Omega.{arith}
-use lib.ListN.{length, get_or, set, take}
-use lib.Seq.{take-suc, take-suc-set, take_all, get_or-set_same, get_or-set_other}
+use lib.ListN.{length, get_or, set}
+use lib.Seq.{get_or-set_same, get_or-set_other}
 use Rattle.bits.proofs.ListLaws.{alike}
 
 module _ {A : Type 0} where
-  -- ---- a list that is filled from the front
-
-  -- the first j elements are there, and one more is stored
-  pub fill_more : (z : A) (whole part : List A) (j : ℕ) (x : A) → j < length whole → j < length part
-      → take j part ≡ take j whole → x ≡ get_or whole j z → take (j + 1) (set part j x) ≡ take (j + 1) whole
-  fill_more z whole part j x hw hp e is =
-      ap (λ (n : ℕ). take n (set part j x)) (add-one j)
-      ∙ take-suc-set part j x hp
-      ∙ ap₂ (λ (l : List A) (y : A). l ++ (y ∷ [])) e is
-      ∙ sym (take-suc whole j z hw)
-      ∙ ap (λ (n : ℕ). take n whole) (sym (add-one j))
-
-  -- all are there
-  pub fill_done : (whole part : List A) (j n : ℕ) → j ≡ n → length whole ≡ n → length part ≡ n → take j part ≡ take j whole → part ≡ whole
-  fill_done whole part j n past hw hp e = sym (take_all j part (omega arith)) ∙ e ∙ take_all j whole (omega arith)
-
   -- ---- one store
 
   -- what holds of an element and of what is stored somewhere holds of the element after the store

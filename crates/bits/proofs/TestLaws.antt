@@ -4,7 +4,7 @@ use mathlib.Core.Path.{◌≡◌, refl, sym, ap, ◌∙◌}
 use mathlib.Core.Logic.{◌⊎◌, inl, inr, ⊎_elim}
 use mathlib.Core.Bool.{Bool, true, false, ◌&&◌, ◌||◌, true≢false, false≢true}
 use mathlib.Core.List.{List, [], ◌∷◌}
-use mathlib.Core.Option.{Option, none, some}
+use Rattle.std.specs.Prelude.{Option, None, Some}
 use Prim.Native.Nat.{ℕ, zero, suc, ◌+◌, ◌≤◌, ◌<◌}
 use native.Mathlib.Nat.{le_of_suc-le-suc, eq-or-lt_of_le}
 use native.Mathlib.Numerals.{add-one}
@@ -111,8 +111,8 @@ module _ (test : ℕ → Bool) where
 
   -- what `lowest` answered, as a fact
   abbrev pub Told : ℕ → Option ℕ → Type 0
-  Told n none = Never n
-  Told n (some p) = Lowest n p
+  Told n None = Never n
+  Told n (Some p) = Lowest n p
 
   never_more : (n : ℕ) → Never n → test n ≡ false → Never (suc n)
   never_more n all here j l = ⊎_elim (λ (e : j ≡ n). rw e here) (λ h. all j h) (equal j n (omega arith))
@@ -123,27 +123,27 @@ module _ (test : ℕ → Bool) where
   lowest_told (suc n) = step (lowest test n) (lowest_told n) (test n) refl
     where
       step : (o : Option ℕ) → Told n o → (b : Bool) → test n ≡ b
-          → Told (suc n) (elim o [ some p ↦ some p | none ↦ elim b [ true ↦ some n | false ↦ none ] ])
-      step (some p) t b e = record { below = omega arith; passes = t.passes; first = t.first }
-      step none t true e = record { below = omega arith; passes = e; first = t }
-      step none t false e = never_more n t e
+          → Told (suc n) (elim o [ Some p ↦ Some p | None ↦ elim b [ true ↦ Some n | false ↦ None ] ])
+      step (Some p) t b e = record { below = omega arith; passes = t.passes; first = t.first }
+      step None t true e = record { below = omega arith; passes = e; first = t }
+      step None t false e = never_more n t e
 
   -- the other way round: the facts fix the answer
-  pub lowest_none : (n : ℕ) → Never n → lowest test n ≡ none
+  pub lowest_none : (n : ℕ) → Never n → lowest test n ≡ None
   lowest_none n all = go (lowest test n) (lowest_told n)
     where
-      go : (o : Option ℕ) → Told n o → o ≡ none
-      go none t = refl
-      go (some p) t = clash t.passes (all p t.below)
+      go : (o : Option ℕ) → Told n o → o ≡ None
+      go None t = refl
+      go (Some p) t = clash t.passes (all p t.below)
 
-  pub lowest_some : (n p : ℕ) → Lowest n p → lowest test n ≡ some p
+  pub lowest_some : (n p : ℕ) → Lowest n p → lowest test n ≡ Some p
   lowest_some n p is = go (lowest test n) (lowest_told n)
     where
-      go : (o : Option ℕ) → Told n o → o ≡ some p
-      go none t = clash is.passes (t p is.below)
-      go (some q) t =
+      go : (o : Option ℕ) → Told n o → o ≡ Some p
+      go None t = clash is.passes (t p is.below)
+      go (Some q) t =
           ⊎_elim (λ (h : q < p). clash t.passes (is.first q h))
-          (λ (h : p ≤ q). ⊎_elim (λ (e : p ≡ q). ap some (sym e)) (λ (g : p < q). clash is.passes (t.first p g)) (equal p q h))
+          (λ (h : p ≤ q). ⊎_elim (λ (e : p ≡ q). ap Some (sym e)) (λ (g : p < q). clash is.passes (t.first p g)) (equal p q h))
           (less q p)
 
   -- ---- how many pass
@@ -162,8 +162,8 @@ pub lowest_agree : (t u : ℕ → Bool) (n : ℕ) → ((j : ℕ) → j < n → t
 lowest_agree t u n e = go (lowest t n) (lowest_told t n)
   where
     go : (o : Option ℕ) → Told t n o → o ≡ lowest u n
-    go none never = sym (lowest_none u n (λ j h. sym (e j h) ∙ never j h))
-    go (some p) is =
+    go None never = sym (lowest_none u n (λ j h. sym (e j h) ∙ never j h))
+    go (Some p) is =
         sym (lowest_some u n p (record {
           below = is.below;
           passes = sym (e p is.below) ∙ is.passes;

@@ -4,7 +4,6 @@ use mathlib.Core.Path.{◌≡◌, refl, sym, ap, ◌∙◌}
 use mathlib.Core.List.{List, [], ◌∷◌, ◌++◌}
 use Prim.Native.Nat.{ℕ, suc, ◌+◌, ◌≤◌}
 use native.Mathlib.Nat.{add-zero, add-suc, suc-add}
-use native.Mathlib.Numerals.{add-one}
 use native.Mathlib.Omega.{arith}
 use lib.ListN.{length, set, drop, length-append}
 use lib.Seq.{sets, length-sets, sets-eq}
@@ -20,12 +19,6 @@ sets_append (v ∷ vs) ws l i =
 
 pub writes_nothing : (list : List ℕ) (at : ℕ) → Writes list at [] list at
 writes_nothing list at = record { written = refl; ends = sym (add-zero at) }
-
-pub writes_one : (list : List ℕ) (at i : ℕ) → Writes list at (i ∷ []) (set list at i) (at + 1)
-writes_one list at i = record { written = refl; ends = refl }
-
-pub writes_two : (list : List ℕ) (at i j : ℕ) → Writes list at (i ∷ j ∷ []) (set (set list at i) (at + 1) j) (at + 2)
-writes_two list at i j = record { written = ap (λ (k : ℕ). set (set list at i) k j) (add-one at); ends = refl }
 
 -- one run after another
 pub writes_both : {list : List ℕ} {at : ℕ} {first mid : List ℕ} {from : ℕ} {second after : List ℕ} {next : ℕ}

@@ -1,7 +1,7 @@
 -- Tests over lists and over places.
 -- Assumes nothing.
 use Rattle.std.specs.Prelude.{Bool, true, false, ◌&&◌, ◌||◌, List, [], ◌∷◌, ℕ, zero, suc}
-use Rattle.std.proofs.Math.Option.{Option, none, some}
+use Rattle.std.specs.Prelude.{Option, None, Some}
 
 module _ {A : Type 0} where
   -- some element passes
@@ -29,8 +29,8 @@ up_from k (suc n) = k ∷ up_from (suc k) n
 
 -- the lowest place below n that passes
 unfoldable pub lowest : (ℕ → Bool) → ℕ → Option ℕ
-lowest test zero = none
-lowest test (suc n) = elim (lowest test n) [ some p ↦ some p | none ↦ elim (test n) [ true ↦ some n | false ↦ none ] ]
+lowest test zero = None
+lowest test (suc n) = elim (lowest test n) [ Some p ↦ Some p | None ↦ elim (test n) [ true ↦ Some n | false ↦ None ] ]
 
 -- how many places below n pass
 unfoldable pub count : (ℕ → Bool) → ℕ → ℕ

@@ -1,11 +1,13 @@
 -- Refusal 13 through the call: it names the first pair that changes order and clashes, and the 13 bytes that it carries are the lowest header
 -- that fits both, on which the two rules alone answer differently in their two orders.
 -- Assumes nothing.
+use Rattle.rules.specs.declared.Refusal.{Refusal}
+use Rattle.lookup.specs.declared.Answer.{Answer}
 use mathlib.Core.Path.{◌≡◌, refl, sym, ap, ap₂, subst, ◌∙◌}
 use mathlib.Core.Logic.{◌⊎◌, ⊎_elim}
 use mathlib.Core.Bool.{true}
 use mathlib.Core.List.{List, ◌++◌, head-eq_of_cons-eq}
-use mathlib.Core.Option.{Option, none, some}
+use Rattle.std.specs.Prelude.{Option, None, Some, Result, Err}
 use Prim.Native.Nat.{ℕ, ◌≤◌, ◌<◌}
 use native.Mathlib.Omega.{arith}
 use lib.Dec.{leb}
@@ -17,11 +19,10 @@ use Rattle.bits.proofs.ListLaws.{alike}
 use Rattle.bits.proofs.NumberLaws.{bytes_append}
 use Rattle.rules.specs.declared.Action.{Action}
 use Rattle.rules.specs.declared.Crossing.{Crossing}
-use Rattle.rules.specs.declared.Decoded.TheVariants.{Known}
 use Rattle.rules.specs.declared.Refusal.TheVariants.{NotAllowed}
 use Rattle.rules.specs.Action.{action_in}
 use Rattle.rules.specs.Rule.{Rule, rule_of}
-use Rattle.rules.specs.Refusal.{values, said, first_refusal}
+use Rattle.rules.specs.Refusal.{told, values, said, first_refusal}
 use Rattle.rules.specs.Header.{header_values, header_bytes}
 use Rattle.rules.specs.Match.{rule_at}
 use Rattle.rules.specs.Overlap.{lowest_shared}
@@ -34,10 +35,8 @@ use Rattle.overlap.specs.Pairs.{Pair}
 use Rattle.overlap.specs.Judge as judge
 use Rattle.overlap.proofs.SortedLaws.{pair}
 use Rattle.overlap.proofs.JudgeLaws.{clash_exact, Crossed, crossing_exact}
-use Rattle.lookup.specs.declared.Looked.{Looked}
-use Rattle.desk.specs.declared.Judged as judged
 use Rattle.desk.specs.LookCall.{Looks}
-use Rattle.desk.specs.JudgeCall.{judged_said, order_said, output_said, crossing_said, judge_said, Judges}
+use Rattle.desk.specs.JudgeCall.{order_said, output_said, crossing_said, judge_said, Judges}
 use Rattle.desk.specs.Terms.{IsHeader, IsTable, Fits, Wins, IsOrder, Share, Clash, Turned, IsIndex, Gets, Differ, IsCrossing}
 use Rattle.desk.proofs.TermLaws.{IsRule, fits_matches, share_rules, rule_in_lem, clash_at}
 use Rattle.desk.proofs.Demand2.{lookup_match}
@@ -73,8 +72,8 @@ module _ {a b : List ℕ} (ra : IsRule a) (rb : IsRule b) where
       }
 
 -- over an index of the table of two records, a header that fits the first gets its action
-first_gets : {a b header area : List ℕ} {r : Looked} → IsRule a → IsRule b → IsHeader header → Fits header a → IsIndex (a ++ b) area
-    → Looks (a ++ b) area header r → (x : Action) × (action_in a ≡ Known x) × Gets r x
+first_gets : {a b header area : List ℕ} {r : Result Answer Refusal} → IsRule a → IsRule b → IsHeader header → Fits header a → IsIndex (a ++ b) area
+    → Looks (a ++ b) area header r → (x : Action) × (action_in a ≡ Some x) × Gets r x
 first_gets {a} {b} {header} ra rb h fits x l =
     let known = sound_known a ra.sound.faultless in
     let here = first_record ra rb in
@@ -93,7 +92,7 @@ two_differ {a} {b} {header} ra rb h fa fb apart = record {
   answers_differ = λ x l y k.
       let first = first_gets ra rb h fa x l in
       let second = first_gets rb ra h fb y k in
-      (first.0, second.0, first.2, second.2, λ e. apart (first.1 ∙ ap Known e ∙ sym second.1));
+      (first.0, second.0, first.2, second.2, λ e. apart (first.1 ∙ ap Some e ∙ sym second.1));
 }
 
 -- ---- the lowest header that two rules share
@@ -122,12 +121,12 @@ module _ {a b : List ℕ} (ra : IsRule a) (rb : IsRule b) (s : Share a b) where
 -- ---- what refusal 13 carries
 
 module _ {table o output after : List ℕ} {c : Crossing} (t : IsTable table) (x : IsOrder table o)
-    (room : length table ≤ length output) (j : Judges table o output (judged.TheVariants.Refused (NotAllowed c)) after) where
+    (room : length table ≤ length output) (j : Judges table o output (Err (NotAllowed c)) after) where
   abbrev rules : List Rule
   rules = rules_of table
 
   says : said (NotAllowed c) ≡ crossing_said rules (judge.crossing rules o)
-  unfolding judged_said judge_said first_refusal order_said output_said
+  unfolding told judge_said first_refusal order_said output_said
   says = j.answer ∙ rw (t.accepted, (is_order_lem table o).0 x, le-ltb (length output) (length table) room) refl
 
   module _ (p : Pair) (crossed : Crossed rules o p) where
@@ -173,8 +172,8 @@ module _ {table o output after : List ℕ} {c : Crossing} (t : IsTable table) (x
   named : (q : Option Pair) → judge.crossing rules o ≡ q → said (NotAllowed c) ≡ crossing_said rules q
       → IsCrossing table o c.lower c.higher (header_bytes (values c.header))
   unfolding said crossing_said
-  named none e s = absurd (omega (arith, head-eq_of_cons-eq s))
-  named (some p) e s =
+  named None e s = absurd (omega (arith, head-eq_of_cons-eq s))
+  named (Some p) e s =
       let crossed = (crossing_exact rules o p).0 e in
       let low : c.lower ≡ p.lower = ap (λ (l : List ℕ). get_or l 1 0) s in
       let high : c.higher ≡ p.higher = ap (λ (l : List ℕ). get_or l 2 0) s in

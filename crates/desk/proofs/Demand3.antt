@@ -1,11 +1,12 @@
 -- Demand 3 through the call: judge allows a move exactly when no two rules that clash change order, and then writes the moved table; leaving
 -- all in place is allowed, an allowed move can be undone, and two in a row are one.
 -- Assumes nothing.
+use Rattle.rules.specs.declared.Refusal.{Refusal}
 use mathlib.Core.Path.{◌≡◌, refl, sym, ap, ap₂, subst, ◌∙◌}
 use mathlib.Core.Logic.{◌↔◌, ◌⊎◌, inl, inr, ⊎_elim}
 use mathlib.Core.Bool.{true, false}
 use mathlib.Core.List.{List, [], ◌∷◌, ◌++◌, head-eq_of_cons-eq}
-use mathlib.Core.Option.{Option, none, some}
+use Rattle.std.specs.Prelude.{Option, None, Some, Result, Ok, Err}
 use Prim.Native.Nat.{ℕ, ◌≤◌, ◌<◌}
 use native.Mathlib.Omega.{arith}
 use lib.ListN.{length, take, drop}
@@ -13,7 +14,7 @@ use lib.Seq.{take_at, drop_at}
 use Rattle.bits.proofs.TestLaws.{decided, less}
 use Rattle.rules.specs.declared.Crossing.{Crossing}
 use Rattle.rules.specs.declared.Refusal.TheVariants.{NotAllowed}
-use Rattle.rules.specs.Refusal.{first_refusal, values}
+use Rattle.rules.specs.Refusal.{told, first_refusal, values}
 use Rattle.rules.specs.Rule.{Rule}
 use Rattle.rules.specs.Match.{rule_at}
 use Rattle.rules.specs.Overlap.{lowest_shared}
@@ -30,9 +31,7 @@ use Rattle.overlap.proofs.MadeOrders.{way_order, place_order}
 use Rattle.overlap.proofs.JudgeLaws.{Kept, allowed_exact, crossing_exact}
 use Rattle.overlap.proofs.MoveLaws.{in_place_allowed, undo, compose}
 use Rattle.overlap.proofs.TableMoves.{moved_count, moved_length, moved_rules, moved_accepted, moved_bytes, accepted_whole, bytes_in_place, bytes_undo, bytes_compose}
-use Rattle.desk.specs.declared.Judged as judged
-use Rattle.desk.specs.declared.Judged.TheVariants.{Allowed}
-use Rattle.desk.specs.JudgeCall.{judged_said, order_said, output_said, crossing_said, judge_said, judge_left, Judges}
+use Rattle.desk.specs.JudgeCall.{order_said, output_said, crossing_said, judge_said, judge_left, Judges}
 use Rattle.desk.specs.Terms.{IsTable, IsOrder, NoneTurned}
 use Rattle.desk.proofs.TermLaws.{clash_at}
 use Rattle.desk.proofs.LentLaws.{first_last, done_accepted, done_written}
@@ -49,9 +48,9 @@ pub record Moved (table order output after : List ℕ) : Type 0 where
   pub written : take (length table) after ≡ moved_table table order
   pub beyond : drop (length table) after ≡ drop (length table) output
 
-module _ (table order output after : List ℕ) (j : Judges table order output judged.TheVariants.Allowed after) where
+module _ (table order output after : List ℕ) (j : Judges table order output (Ok tt) after) where
   says : judge_said table order output ≡ 0 ∷ []
-  unfolding judged_said
+  unfolding told
   says = sym j.answer
 
   abbrev last : List ℕ
@@ -61,10 +60,10 @@ module _ (table order output after : List ℕ) (j : Judges table order output ju
   unfolding judge_said
   past_table = first_last (verdict table) (first_refusal (order_said table order) (first_refusal (output_said table output) last)) [] says
 
-  no_crossing : (o : Option Pair) → crossing_said (rules_of table) o ≡ 0 ∷ [] → o ≡ none
+  no_crossing : (o : Option Pair) → crossing_said (rules_of table) o ≡ 0 ∷ [] → o ≡ None
   unfolding crossing_said
-  no_crossing none e = refl
-  no_crossing (some p) e = absurd (omega (arith, head-eq_of_cons-eq e))
+  no_crossing None e = refl
+  no_crossing (Some p) e = absurd (omega (arith, head-eq_of_cons-eq e))
 
   -- a list that is no order would have been refused
   not_eleven : is_order (rule_count table) order ≡ false → ⊥
@@ -93,14 +92,14 @@ module _ (table order output after : List ℕ) (j : Judges table order output ju
       }
 
 -- the output starts with the moved table, and what stands behind it stays
-pub judge_writes : {table order output after : List ℕ} → Judges table order output Allowed after
+pub judge_writes : {table order output after : List ℕ} → Judges table order output (Ok tt) after
     → (take (length table) after ≡ moved_table table order) × (drop (length table) after ≡ drop (length table) output)
 judge_writes {table} {order} {output} {after} j =
     let m = judged_moved table order output after j in
     (m.written, m.beyond)
 
 -- which is accepted
-pub judge_accepted : {table order output after : List ℕ} → IsTable table → Judges table order output Allowed after → IsTable (take (length table) after)
+pub judge_accepted : {table order output after : List ℕ} → IsTable table → Judges table order output (Ok tt) after → IsTable (take (length table) after)
 judge_accepted {table} {order} {output} {after} t j =
     let m = judged_moved table order output after j in
     subst IsTable (sym m.written)
@@ -109,13 +108,13 @@ judge_accepted {table} {order} {output} {after} t j =
 -- ---- what judge answers to an order, with room for the table
 
 module _ {table o output : List ℕ} (ok : Accepted table) (ordered : is_order (rule_count table) o ≡ true) (room : length table ≤ length output)
-    {r : judged.Judged} {after : List ℕ} (j : Judges table o output r after) where
-  allowed_judged : judge.Allowed (rules_of table) o → r ≡ Allowed
+    {r : Result Unit Refusal} {after : List ℕ} (j : Judges table o output r after) where
+  allowed_judged : judge.Allowed (rules_of table) o → r ≡ (Ok tt)
   unfolding found_told
   allowed_judged a = (judge_one j (allowed_judges table o output ok ordered room (sym (ap (found_told (rules_of table)) a)))).0
 
   -- the pair that stands in the way, with its lowest shared header
-  crossed_judged : (p : Pair) → judge.crossing (rules_of table) o ≡ some p → (c : Crossing) × (r ≡ judged.TheVariants.Refused (NotAllowed c))
+  crossed_judged : (p : Pair) → judge.crossing (rules_of table) o ≡ Some p → (c : Crossing) × (r ≡ Err (NotAllowed c))
   unfolding crossing_told found_told pair_told
   crossed_judged p e =
       let within = ((crossing_exact (rules_of table) o p).0 e).within in
@@ -151,39 +150,39 @@ kept_turned {table} t o = (
       (less (new_place o p.higher) (new_place o p.lower)),
 )
 
-module _ {table o output after : List ℕ} {r : judged.Judged} (t : IsTable table) (x : IsOrder table o)
+module _ {table o output after : List ℕ} {r : Result Unit Refusal} (t : IsTable table) (x : IsOrder table o)
     (room : length table ≤ length output) (j : Judges table o output r after) where
-  pub judge_exact : (r ≡ Allowed) ↔ NoneTurned table o
+  pub judge_exact : (r ≡ (Ok tt)) ↔ NoneTurned table o
   judge_exact = (
-    λ e. (kept_turned t o).0 ((allowed_exact (rules_of table) o).0 (judged_moved table o output after (subst (λ (x : judged.Judged). Judges table o output x after) e j)).allowed),
+    λ e. (kept_turned t o).0 ((allowed_exact (rules_of table) o).0 (judged_moved table o output after (subst (λ (x : Result Unit Refusal). Judges table o output x after) e j)).allowed),
     λ none-turned. allowed_judged t.accepted ((is_order_lem table o).0 x) room j ((allowed_exact (rules_of table) o).1 ((kept_turned t o).1 none-turned)),
   )
 
-  pub judge_either : (r ≡ Allowed) ⊎ ((c : Crossing) × (r ≡ judged.TheVariants.Refused (NotAllowed c)))
+  pub judge_either : (r ≡ (Ok tt)) ⊎ ((c : Crossing) × (r ≡ Err (NotAllowed c)))
   judge_either = go (judge.crossing (rules_of table) o) refl
     where
-      go : (q : Option Pair) → judge.crossing (rules_of table) o ≡ q → (r ≡ Allowed) ⊎ ((c : Crossing) × (r ≡ judged.TheVariants.Refused (NotAllowed c)))
-      go none e = inl (allowed_judged t.accepted ((is_order_lem table o).0 x) room j e)
-      go (some p) e = inr (crossed_judged t.accepted ((is_order_lem table o).0 x) room j p e)
+      go : (q : Option Pair) → judge.crossing (rules_of table) o ≡ q → (r ≡ (Ok tt)) ⊎ ((c : Crossing) × (r ≡ Err (NotAllowed c)))
+      go None e = inl (allowed_judged t.accepted ((is_order_lem table o).0 x) room j e)
+      go (Some p) e = inr (crossed_judged t.accepted ((is_order_lem table o).0 x) room j p e)
 
 -- ---- in place, undone, and in a row
 
 -- an allowed order, judged, writes the moved table
-moves : {table o output after : List ℕ} {r : judged.Judged} → Accepted table → is_order (rule_count table) o ≡ true → length table ≤ length output
-    → judge.Allowed (rules_of table) o → Judges table o output r after → (r ≡ Allowed) × (take (length table) after ≡ moved_table table o)
+moves : {table o output after : List ℕ} {r : Result Unit Refusal} → Accepted table → is_order (rule_count table) o ≡ true → length table ≤ length output
+    → judge.Allowed (rules_of table) o → Judges table o output r after → (r ≡ (Ok tt)) × (take (length table) after ≡ moved_table table o)
 moves {table} {o} {output} {after} {r} ok ordered room a j =
     let e = allowed_judged ok ordered room j a in
-    (e, (judged_moved table o output after (subst (λ (x : judged.Judged). Judges table o output x after) e j)).written)
+    (e, (judged_moved table o output after (subst (λ (x : Result Unit Refusal). Judges table o output x after) e j)).written)
 
-pub judge_in_place : {table output after : List ℕ} {r : judged.Judged} → IsTable table → length table ≤ length output
-    → Judges table (in_place (rule_count table)) output r after → (r ≡ Allowed) × (take (length table) after ≡ table)
+pub judge_in_place : {table output after : List ℕ} {r : Result Unit Refusal} → IsTable table → length table ≤ length output
+    → Judges table (in_place (rule_count table)) output r after → (r ≡ (Ok tt)) × (take (length table) after ≡ table)
 judge_in_place {table} t room j =
     let a = subst (λ (n : ℕ). judge.Allowed (rules_of table) (in_place n)) (rules_size table) (in_place_allowed (rules_of table)).1 in
     let m = moves t.accepted (place_order (rule_count table)) room a j in
     (m.0, m.1 ∙ bytes_in_place table (accepted_whole table t.accepted))
 
-pub judge_undone : {table o output after other left : List ℕ} {r : judged.Judged} → Judges table o output Allowed after → length table ≤ length other
-    → Judges (take (length table) after) (way_back (rule_count table) o) other r left → (r ≡ Allowed) × (take (length table) left ≡ table)
+pub judge_undone : {table o output after other left : List ℕ} {r : Result Unit Refusal} → Judges table o output (Ok tt) after → length table ≤ length other
+    → Judges (take (length table) after) (way_back (rule_count table) o) other r left → (r ≡ (Ok tt)) × (take (length table) left ≡ table)
 judge_undone {table} {o} {output} {after} {other} {left} {r} j room k =
     let m = judged_moved table o output after j in
     let n = rule_count table in
@@ -198,14 +197,14 @@ judge_undone {table} {o} {output} {after} {other} {left} {r} j room k =
     in
     (w.0, ap (λ (x : ℕ). take x left) (sym size) ∙ w.1 ∙ bytes_undo table o (accepted_whole table m.accepted) m.ordered)
 
-pub judge_composed : {table o p output after output₂ after₂ output₃ after₃ : List ℕ} {r : judged.Judged} → Judges table o output Allowed after
-    → Judges (take (length table) after) p output₂ Allowed after₂ → length table ≤ length output₃
-    → Judges table (and_then o p) output₃ r after₃ → (r ≡ Allowed) × (take (length table) after₃ ≡ take (length table) after₂)
+pub judge_composed : {table o p output after output₂ after₂ output₃ after₃ : List ℕ} {r : Result Unit Refusal} → Judges table o output (Ok tt) after
+    → Judges (take (length table) after) p output₂ (Ok tt) after₂ → length table ≤ length output₃
+    → Judges table (and_then o p) output₃ r after₃ → (r ≡ (Ok tt)) × (take (length table) after₃ ≡ take (length table) after₂)
 judge_composed {table} {o} {p} {output} {after} {output₂} {after₂} j k room l =
     let m = judged_moved table o output after j in
     let there = moved_table table o in
     let size : length there ≡ length table = moved_length table o m.ordered (accepted_whole table m.accepted) in
-    let n = judged_moved there p output₂ after₂ (subst (λ (x : List ℕ). Judges x p output₂ Allowed after₂) m.written k) in
+    let n = judged_moved there p output₂ after₂ (subst (λ (x : List ℕ). Judges x p output₂ (Ok tt) after₂) m.written k) in
     let same = moved_rules table o m.ordered in
     let c = compose (rules_of table) o p (rw (rules_size table) m.ordered) m.allowed
     (subst (λ (rs : List Rule). is_order (length rs) p ≡ true) same (rw (rules_size there) n.ordered))

@@ -1,5 +1,7 @@
 -- The number of false blocks that table and header fix is that of the blocks that are false by their records, and no other is.
 -- Assumes nothing.
+use Rattle.rules.specs.declared.Refusal.{Refusal}
+use Rattle.std.specs.Prelude.{Result, Ok}
 use mathlib.Core.Path.{◌≡◌, refl, sym, ap, subst, ◌∙◌}
 use mathlib.Core.Logic.{◌↔◌}
 use mathlib.Core.Bool.{true}
@@ -19,8 +21,6 @@ use Rattle.rules.proofs.MatchInLaws.{matches_in_leads}
 use Rattle.rules.proofs.BlockLaws.{Deceiving, false_exact}
 use Rattle.area.specs.Shape.{blocks}
 use Rattle.lookup.specs.declared.Answer.{Answer}
-use Rattle.lookup.specs.declared.Looked.{Looked}
-use Rattle.lookup.specs.declared.Looked.TheVariants.{Found}
 use Rattle.desk.specs.LookCall.{Looks}
 use Rattle.desk.specs.Terms.{IsHeader, IsTable, IsIndex}
 use Rattle.desk.specs.FalseBlock.{FitsIn, FalseBlock, CountsFalse}
@@ -81,8 +81,8 @@ module _ {table header : List ℕ} (t : IsTable table) (h : IsHeader header) whe
       }
 
 -- what lookup answers over an index has so many
-pub lookup_done : {table area header : List ℕ} {r : Looked} → IsTable table → IsIndex table area → IsHeader header → Looks table area header r
-    → (a : Answer) × (r ≡ Found a) × CountsFalse table header a.falses × (a.falses ≤ blocks)
+pub lookup_done : {table area header : List ℕ} {r : Result Answer Refusal} → IsTable table → IsIndex table area → IsHeader header → Looks table area header r
+    → (a : Answer) × (r ≡ Ok a) × CountsFalse table header a.falses × (a.falses ≤ blocks)
 lookup_done {table} {area} {header} t x h l =
     let d = lookup_found t x h l in
     (d.0, d.1, subst (CountsFalse table header) (sym d.2) (counts_false t h), d.3)

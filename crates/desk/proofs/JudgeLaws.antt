@@ -4,7 +4,7 @@
 use mathlib.Core.Path.{◌≡◌, refl, sym, ap, ◌∙◌}
 use mathlib.Core.Bool.{true, false}
 use mathlib.Core.List.{List, [], ◌∷◌, ◌++◌}
-use mathlib.Core.Option.{Option, none, some}
+use Rattle.std.specs.Prelude.{Option, None, Some, Ok, Err}
 use Prim.Native.Nat.{ℕ, ◌≤◌, ◌<◌}
 use lib.ListN.{length, drop}
 use borrow.Author.Tests.{lt-ltb, le-ltb}
@@ -12,7 +12,7 @@ use Rattle.rules.specs.declared.Crossing.{Crossing}
 use Rattle.rules.specs.declared.Refusal.{Refusal}
 use Rattle.rules.specs.declared.Refusal.TheVariants.{NotAnOrder, ShortOutput, NotAllowed}
 use Rattle.rules.specs.Header.{header_bytes}
-use Rattle.rules.specs.Refusal.{said, first_refusal}
+use Rattle.rules.specs.Refusal.{told, said, first_refusal}
 use Rattle.rules.specs.Rule.{Rule}
 use Rattle.rules.specs.Table.{rule_count, rules_of, verdict, Accepted}
 use Rattle.rules.proofs.SaidLaws.{refused_first}
@@ -20,8 +20,7 @@ use Rattle.overlap.specs.Pairs.{Pair}
 use Rattle.overlap.specs.Order.{is_order, moved_table}
 use Rattle.overlap.specs.Judge.{crossing}
 use Rattle.overlap.specs.Obstacle.{pair_told, found_told, crossing_told}
-use Rattle.desk.specs.declared.Judged.TheVariants.{Allowed, Refused}
-use Rattle.desk.specs.JudgeCall.{judged_said, order_said, output_said, crossing_said, judge_said, judge_left, Judges}
+use Rattle.desk.specs.JudgeCall.{order_said, output_said, crossing_said, judge_said, judge_left, Judges}
 use Rattle.desk.proofs.LentLaws.{lent_refused, done_written}
 
 -- ---- what refusal 13 says
@@ -34,8 +33,8 @@ said_of (i ∷ j ∷ vs) = 13 ∷ i ∷ j ∷ header_bytes vs
 
 told_said : (rules : List Rule) (o : Option Pair) → crossing_said rules o ≡ said_of (found_told rules o)
 unfolding crossing_said said_of found_told pair_told
-told_said rules none = refl
-told_said rules (some p) = refl
+told_said rules None = refl
+told_said rules (Some p) = refl
 
 crossing_said_lem : (c : Crossing) → said_of (crossing_told c) ≡ said (NotAllowed c)
 unfolding said_of crossing_told said
@@ -49,20 +48,20 @@ module _ (table order output : List ℕ) where
   written = moved_table table order ++ drop (length table) output
 
   -- what is told of the pair that stands in the way
-  abbrev pub told : List ℕ
-  told = found_told (rules_of table) (crossing (rules_of table) order)
+  abbrev pub crossed : List ℕ
+  crossed = found_told (rules_of table) (crossing (rules_of table) order)
 
   abbrev last : List ℕ
   last = crossing_said (rules_of table) (crossing (rules_of table) order)
 
   -- where a refusal is said, the output stays
-  refuses : (r : Refusal) → judge_said table order output ≡ said r → Judges table order output (Refused r) output
-  unfolding judged_said judge_left
+  refuses : (r : Refusal) → judge_said table order output ≡ said r → Judges table order output (Err r) output
+  unfolding told judge_left
   refuses r e =
       let w = lent_refused r (judge_said table order output) written output e in
       record { answer = w.0; lent = w.1 }
 
-  pub refused_judges : (r : Refusal) → said r ≡ verdict table → Judges table order output (Refused r) output
+  pub refused_judges : (r : Refusal) → said r ≡ verdict table → Judges table order output (Err r) output
   unfolding judge_said
   refused_judges r e =
       let rest = first_refusal (order_said table order) (first_refusal (output_said table output) last) in
@@ -73,7 +72,7 @@ module _ (table order output : List ℕ) where
     unfolding judge_said first_refusal
     past_table = ap (λ (vs : List ℕ). first_refusal vs (first_refusal (order_said table order) (first_refusal (output_said table output) last))) ok
 
-    pub no_order_judges : is_order (rule_count table) order ≡ false → Judges table order output (Refused NotAnOrder) output
+    pub no_order_judges : is_order (rule_count table) order ≡ false → Judges table order output (Err NotAnOrder) output
     unfolding order_said first_refusal said
     no_order_judges e = refuses NotAnOrder (past_table ∙ rw e)
 
@@ -82,7 +81,7 @@ module _ (table order output : List ℕ) where
       unfolding order_said first_refusal
       past_order = past_table ∙ rw ordered
 
-      pub short_judges : length output < length table → Judges table order output (Refused ShortOutput) output
+      pub short_judges : length output < length table → Judges table order output (Err ShortOutput) output
       unfolding output_said first_refusal said
       short_judges h = refuses ShortOutput (past_order ∙ rw (lt-ltb (length output) (length table) h))
 
@@ -91,14 +90,14 @@ module _ (table order output : List ℕ) where
         unfolding output_said first_refusal
         past_output = past_order ∙ rw (le-ltb (length output) (length table) room)
 
-        says_told : judge_said table order output ≡ said_of told
-        says_told = past_output ∙ told_said (rules_of table) (crossing (rules_of table) order)
+        says_crossed : judge_said table order output ≡ said_of crossed
+        says_crossed = past_output ∙ told_said (rules_of table) (crossing (rules_of table) order)
 
-        pub crossed_judges : (c : Crossing) → crossing_told c ≡ told → Judges table order output (Refused (NotAllowed c)) output
-        crossed_judges c e = refuses (NotAllowed c) (says_told ∙ ap said_of (sym e) ∙ crossing_said_lem c)
+        pub crossed_judges : (c : Crossing) → crossing_told c ≡ crossed → Judges table order output (Err (NotAllowed c)) output
+        crossed_judges c e = refuses (NotAllowed c) (says_crossed ∙ ap said_of (sym e) ∙ crossing_said_lem c)
 
-        pub allowed_judges : [] ≡ told → Judges table order output Allowed written
-        unfolding judged_said judge_left said_of
+        pub allowed_judges : [] ≡ crossed → Judges table order output (Ok tt) written
+        unfolding told judge_left said_of
         allowed_judges e =
-            let done : judge_said table order output ≡ 0 ∷ [] = says_told ∙ ap said_of (sym e) in
+            let done : judge_said table order output ≡ 0 ∷ [] = says_crossed ∙ ap said_of (sym e) in
             record { answer = sym done; lent = sym (done_written (judge_said table order output) written output [] done) }

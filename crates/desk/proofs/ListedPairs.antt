@@ -1,6 +1,8 @@
 -- Demand 2's pairs through the call: the entries that it leaves are exactly the pairs of rules that share a header of 13 bytes while neither
 -- covers the other, each once, in order; and no two lists are so.
 -- Assumes nothing.
+use Rattle.rules.specs.Refusal.{told}
+use Rattle.std.specs.Prelude.{Ok}
 use mathlib.Core.Path.{◌≡◌, sym, ap, ap₂, subst, subst₂, ◌∙◌}
 use mathlib.Core.Logic.{◌↔◌, ◌⊎◌, inl, inr, ⊎_elim}
 use mathlib.Core.Bool.{false}
@@ -24,8 +26,7 @@ use Rattle.overlap.proofs.PairLaws.{pairs_sorted}
 use Rattle.overlap.proofs.ListedHeaders.{listed_header}
 use Rattle.overlap.proofs.LoopLaws.{entries_size}
 use Rattle.overlap.proofs.EntryLaws.{pair_entries}
-use Rattle.desk.specs.declared.Paired.TheVariants.{Listed}
-use Rattle.desk.specs.PairsCall.{paired_said, pair_count, pairs_said, pairs_left, Pairs}
+use Rattle.desk.specs.PairsCall.{pair_count, pairs_said, pairs_left, Pairs}
 use Rattle.desk.specs.Terms.{IsHeader, IsTable, Covers, CutsAcross, ListsPairs}
 use Rattle.desk.proofs.TermLaws.{fits_matches, covers_rules, rule_in_lem}
 use Rattle.desk.proofs.LentLaws.{room_value, done_written}
@@ -82,16 +83,16 @@ listed_cuts {table} t i j =
 
 -- ---- the list that the call leaves
 
-module _ {table list after : List ℕ} {count : ℕ} (p : Pairs table list (Listed count) after) where
+module _ {table list after : List ℕ} {count : ℕ} (p : Pairs table list (Ok count) after) where
   abbrev ps : List Pair
   ps = pairs_of (rules_of table)
 
   counted : count ≡ length ps
-  unfolding paired_said pairs_said
+  unfolding told pairs_said
   counted = room_value table list 9 (2 * pair_count table) (pair_count table) count (sym p.answer)
 
   left : after ≡ entries ps ++ drop (2 * length ps) list
-  unfolding paired_said pairs_left
+  unfolding told pairs_left
   left = p.lent ∙ done_written (pairs_said table list) (entries ps ++ drop (2 * length ps) list) list (count ∷ []) (sym p.answer)
 
   -- pair k of the list

@@ -1,10 +1,12 @@
 -- The exact reasons of lookup: 8, 1 and 2 in their order, and 9 for an area without its five roots.
 -- Assumes nothing.
+use Rattle.rules.specs.declared.Action.{Action}
+use Rattle.lookup.specs.declared.Answer.{Answer}
 use mathlib.Core.Path.{◌≡◌, refl, sym, ap, ◌∙◌}
 use mathlib.Core.Logic.{◌↔◌, inl, inr, ⊎_elim}
 use mathlib.Core.Bool.{true, not, cond}
 use mathlib.Core.List.{List, [], ◌∷◌}
-use mathlib.Core.Option.{Option, none, some}
+use Rattle.std.specs.Prelude.{Option, None, Some, Result, Err}
 use Prim.Native.Nat.{ℕ, ◌%◌, ◌≤◌, ◌<◌}
 use native.Mathlib.Omega.{arith}
 use lib.Dec.{eqb, ltb}
@@ -12,17 +14,13 @@ use lib.ListN.{length, get_or}
 use borrow.Author.Tests.{eq-eqb, ne_eqb, lt-ltb, le-ltb}
 use Rattle.bits.proofs.TestLaws.{less}
 use Rattle.bits.proofs.ListLaws.{alike}
-use Rattle.rules.specs.declared.Decoded.{Decoded}
-use Rattle.rules.specs.declared.Decoded.TheVariants.{Known, Unknown}
 use Rattle.rules.specs.declared.Refusal.{Refusal}
 use Rattle.rules.specs.declared.Refusal.TheVariants.{RaggedTable, TooManyRules, NotAHeader, DamagedArea}
 use Rattle.rules.specs.Action.{action_in}
-use Rattle.rules.specs.Refusal.{said}
+use Rattle.rules.specs.Refusal.{told, said}
 use Rattle.rules.specs.Header.{header_size, header_values}
 use Rattle.rules.specs.Table.{record_size, most_rules, rule_count, record_at}
 use Rattle.area.specs.Shape.{desk_shape}
-use Rattle.lookup.specs.declared.Looked.{Looked}
-use Rattle.lookup.specs.declared.Looked.TheVariants.{Refused}
 use Rattle.lookup.specs.Said.{match_said, no_match_said}
 use Rattle.lookup.specs.Scan as scan
 use Rattle.lookup.specs.Look.{header_keys, widths, lookup_steps, found_said, steps_said, least_words, look_said}
@@ -36,28 +34,28 @@ use Rattle.desk.proofs.Reasons.{exactly}
 -- ---- the steps say 0, 5 or 9, and no other number
 
 module _ (n : ℕ) (zero : n ≡ 0 → ⊥) (five : n ≡ 5 → ⊥) (nine : n ≡ 9 → ⊥) where
-  match_never : (falses place : ℕ) (d : Decoded) → NotSaid n (match_said falses place d)
+  match_never : (falses place : ℕ) (d : Option Action) → NotSaid n (match_said falses place d)
   unfolding match_said
-  match_never falses place (Known a) = λ e. zero (sym e)
-  match_never falses place Unknown = λ e. five (sym e)
+  match_never falses place (Some a) = λ e. zero (sym e)
+  match_never falses place None = λ e. five (sym e)
 
   steps_never : (table : List ℕ) (o : Option scan.Found) → NotSaid n (steps_said table o)
   unfolding steps_said found_said
-  steps_never table none = λ e. nine (sym e)
-  steps_never table (some x) = go x.place
+  steps_never table None = λ e. nine (sym e)
+  steps_never table (Some x) = go x.place
     where
       go : (o : Option ℕ) → NotSaid n (elim o as (λ _. List ℕ) [
-        | none ↦ no_match_said x.falses
-        | some p ↦ cond (ltb p (rule_count table)) (match_said x.falses p (action_in (record_at table p))) (9 ∷ [])
+        | None ↦ no_match_said x.falses
+        | Some p ↦ cond (ltb p (rule_count table)) (match_said x.falses p (action_in (record_at table p))) (9 ∷ [])
       ])
-      go none = unfold no_match_said in λ e. zero (sym e)
-      go (some p) =
+      go None = unfold no_match_said in λ e. zero (sym e)
+      go (Some p) =
           either_never n (ltb p (rule_count table)) (match_said x.falses p (action_in (record_at table p))) (9 ∷ [])
           (match_never x.falses p (action_in (record_at table p))) (λ e. nine (sym e))
 
 -- ---- what is said after each test
 
-module _ {table area header : List ℕ} {r : Looked} (l : Looks table area header r) where
+module _ {table area header : List ℕ} {r : Result Answer Refusal} (l : Looks table area header r) where
   abbrev past_area : List ℕ
   past_area = steps_said table (lookup_steps desk_shape area (header_keys widths (header_values header)))
 
@@ -76,15 +74,15 @@ module _ {table area header : List ℕ} {r : Looked} (l : Looks table area heade
       (steps_never n zero five nine table (lookup_steps desk_shape area (header_keys widths (header_values header))))
 
   -- a refusal that is said is answered, and the other way round
-  answers : (why : Refusal) → look_said table area header ≡ said why → r ≡ Refused why
-  unfolding looked_said
-  answers why e = looked_one r (Refused why) (l.answer ∙ e)
+  answers : (why : Refusal) → look_said table area header ≡ said why → r ≡ Err why
+  unfolding told
+  answers why e = looked_one r (Err why) (l.answer ∙ e)
 
-  not_answers : (why : Refusal) (says : List ℕ) → look_said table area header ≡ says → NotSaid (get_or (said why) 0 0) says → r ≡ Refused why → ⊥
-  unfolding looked_said
+  not_answers : (why : Refusal) (says : List ℕ) → look_said table area header ≡ says → NotSaid (get_or (said why) 0 0) says → r ≡ Err why → ⊥
+  unfolding told
   not_answers why says same never e = never (ap (λ (v : List ℕ). get_or v 0 0) (sym same ∙ sym l.answer ∙ ap looked_said e))
 
-  pub lookup_no_header : (r ≡ Refused NotAHeader) ↔ (length header ≡ header_size → ⊥)
+  pub lookup_no_header : (r ≡ Err NotAHeader) ↔ (length header ≡ header_size → ⊥)
   unfolding said look_said
   lookup_no_header =
       exactly (⊎_elim inr inl (alike (length header) header_size))
@@ -98,7 +96,7 @@ module _ {table area header : List ℕ} {r : Looked} (l : Looks table area heade
     is_header : eqb (length header) header_size ≡ true
     is_header = eq-eqb (length header) header_size right
 
-    pub lookup_ragged : (r ≡ Refused RaggedTable) ↔ (length table % record_size ≡ 0 → ⊥)
+    pub lookup_ragged : (r ≡ Err RaggedTable) ↔ (length table % record_size ≡ 0 → ⊥)
     unfolding said look_said
     lookup_ragged =
         exactly (⊎_elim inr inl (alike (length table % record_size) 0))
@@ -111,7 +109,7 @@ module _ {table area header : List ℕ} {r : Looked} (l : Looks table area heade
       is_whole : eqb (length table % record_size) 0 ≡ true
       is_whole = eq-eqb (length table % record_size) 0 whole
 
-      pub lookup_many : (r ≡ Refused TooManyRules) ↔ (most_rules < rule_count table)
+      pub lookup_many : (r ≡ Err TooManyRules) ↔ (most_rules < rule_count table)
       unfolding said look_said
       lookup_many =
           exactly (less most_rules (rule_count table))
@@ -119,7 +117,7 @@ module _ {table area header : List ℕ} {r : Looked} (l : Looks table area heade
           (λ few. not_answers TooManyRules past_many (rw (is_header, is_whole, le-ltb most_rules (rule_count table) few) refl)
           (many_never 2 (λ x. omega arith) (λ x. omega arith) (λ x. omega arith)))
 
-      pub lookup_short : rule_count table ≤ most_rules → length area < least_words → r ≡ Refused DamagedArea
+      pub lookup_short : rule_count table ≤ most_rules → length area < least_words → r ≡ Err DamagedArea
       unfolding said
       lookup_short few short =
           answers DamagedArea

@@ -1,6 +1,9 @@
 -- Demand 3 through demand 2: after an allowed move, a header looked up over an index of the moved table, as the output holds it, gets the
 -- action that it gets over an index of the first table, or none where it gets none there.
 -- Assumes nothing.
+use Rattle.lookup.specs.declared.Answer.{Answer}
+use Rattle.rules.specs.declared.Refusal.{Refusal}
+use Rattle.std.specs.Prelude.{Result, Ok}
 use mathlib.Core.Path.{◌≡◌, sym, ap, ◌∙◌}
 use mathlib.Core.Logic.{◌↔◌}
 use mathlib.Core.List.{List}
@@ -14,15 +17,13 @@ use Rattle.rules.proofs.MatchLaws.{rules_size}
 use Rattle.overlap.specs.Judge as judge
 use Rattle.overlap.proofs.MoveLaws.{move_same_answer}
 use Rattle.overlap.proofs.TableMoves.{moved_rules}
-use Rattle.lookup.specs.declared.Looked.{Looked}
-use Rattle.desk.specs.declared.Judged.TheVariants.{Allowed}
 use Rattle.desk.specs.LookCall.{Looks}
 use Rattle.desk.specs.JudgeCall.{Judges}
 use Rattle.desk.specs.Terms.{IsHeader, IsTable, IsIndex, Gets, Unmatched}
 use Rattle.desk.proofs.Demand2.{gets_answer, unmatched_answer}
 use Rattle.desk.proofs.Demand3.{judged_moved, judge_accepted}
 
-module _ {table order output after old new header : List ℕ} {before later : Looked} (t : IsTable table) (j : Judges table order output Allowed after)
+module _ {table order output after old new header : List ℕ} {before later : Result Answer Refusal} (t : IsTable table) (j : Judges table order output (Ok tt) after)
     (h : IsHeader header) (x : IsIndex table old) (l : Looks table old header before)
     (y : IsIndex (take (length table) after) new) (k : Looks (take (length table) after) new header later) where
   abbrev there : List ℕ

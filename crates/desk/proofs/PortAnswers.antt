@@ -1,5 +1,8 @@
 -- What refusal 14 is for (02, Q-1), through lookup: the rule that a header of a protocol without ports gets asks for no port.
 -- Assumes nothing.
+use Rattle.rules.specs.declared.Refusal.{Refusal}
+use Rattle.lookup.specs.declared.Answer.{Answer}
+use Rattle.std.specs.Prelude.{Result}
 use mathlib.Core.Path.{◌≡◌, sym, ◌∙◌}
 use mathlib.Core.Logic.{⊎_elim}
 use mathlib.Core.List.{List}
@@ -10,10 +13,10 @@ use Rattle.bits.specs.Path.{bits, leads}
 use Rattle.bits.proofs.TestLaws.{all_at}
 use Rattle.bits.proofs.PathLaws.{leads_number}
 use Rattle.rules.specs.declared.Action.{Action}
-use Rattle.rules.specs.Field.{Field, fields, field_at, protocol, value_in, length_in}
+use Rattle.rules.specs.declared.fields.Field.{Field}
+use Rattle.rules.specs.Field.{fields, field_at, protocol, value_in, length_in}
 use Rattle.rules.specs.Table.{record_at}
 use Rattle.rules.proofs.RuleLaws.{value_small}
-use Rattle.lookup.specs.declared.Looked.{Looked}
 use Rattle.desk.specs.LookCall.{Looks}
 use Rattle.desk.specs.Terms.{AsksPort, HasPorts, IsHeader, IsTable, prefix_in, Fits, IsIndex, Matched}
 use Rattle.desk.proofs.TermLaws.{IsRule, rule_in_lem}
@@ -35,7 +38,7 @@ same_protocol {rule} {header} r h whole fits =
     let equal : v / 1 ≡ x / 1 = rw all_bits at same in
     omega (arith, equal)
 
-pub lookup_no_port : {table area header : List ℕ} {r : Looked} {place : ℕ} {action : Action} → IsTable table → IsIndex table area → IsHeader header
+pub lookup_no_port : {table area header : List ℕ} {r : Result Answer Refusal} {place : ℕ} {action : Action} → IsTable table → IsIndex table area → IsHeader header
     → Looks table area header r → (value_in header (field_at protocol) ≡ 6 → ⊥) → (value_in header (field_at protocol) ≡ 17 → ⊥) → Matched r place action
     → AsksPort (record_at table place) → ⊥
 lookup_no_port {table} {place = place} {action = action} t x h l not-6 not-17 m asks =

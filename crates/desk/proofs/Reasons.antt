@@ -1,6 +1,7 @@
 -- The exact reasons of the calls: the table's refusal comes first and is the same for all; an accepted table is refused for want of room, or
 -- because what was proposed is no order, exactly when it is so.
 -- Assumes nothing.
+use Rattle.std.specs.Prelude.{Result, Err, Ok}
 use mathlib.Core.Path.{◌≡◌, sym, ap, ◌∙◌}
 use mathlib.Core.Logic.{◌↔◌, ◌⊎◌, inl, inr, ⊎_elim}
 use mathlib.Core.Bool.{true}
@@ -11,16 +12,13 @@ use lib.ListN.{length, get_or}
 use Rattle.bits.proofs.TestLaws.{decided, clash, less, refuted}
 use Rattle.rules.specs.declared.Refusal.{Refusal}
 use Rattle.rules.specs.declared.Refusal.TheVariants.{ShortArea, ShortList, NotAnOrder, ShortOutput}
-use Rattle.rules.specs.Refusal.{said}
+use Rattle.rules.specs.Refusal.{told, said}
 use Rattle.rules.specs.Rule.{Rule}
 use Rattle.rules.specs.Table.{rule_count, rules_of, verdict}
 use Rattle.rules.proofs.SaidLaws.{numbered}
 use Rattle.overlap.specs.Order.{is_order}
 use Rattle.overlap.specs.Judge.{crossing}
 use Rattle.overlap.proofs.OrderLaws.{order_exact}
-use Rattle.desk.specs.declared.Built as built
-use Rattle.desk.specs.declared.Paired as paired
-use Rattle.desk.specs.declared.Judged as judged
 use Rattle.desk.specs.BuildCall.{built_said, words_needed, Builds}
 use Rattle.desk.specs.PairsCall.{paired_said, pair_count, Pairs}
 use Rattle.desk.specs.JudgeCall.{judged_said, output_said, crossing_said, judge_said, Judges}
@@ -42,14 +40,14 @@ not_done why e = let k = numbered why in omega (arith, head-eq_of_cons-eq (e ∙
 -- ---- the table's refusal
 
 module _ {table : List ℕ} {why : Refusal} where
-  pub build_by_table : {area after : List ℕ} {r : built.Built} → Builds table area r after → said why ≡ verdict table → r ≡ built.TheVariants.Refused why
+  pub build_by_table : {area after : List ℕ} {r : Result ℕ Refusal} → Builds table area r after → said why ≡ verdict table → r ≡ Err why
   build_by_table {area} b e = (build_one b (building.refused_builds table area why e)).0
 
-  pub pairs_by_table : {list after : List ℕ} {r : paired.Paired} → Pairs table list r after → said why ≡ verdict table → r ≡ paired.TheVariants.Refused why
+  pub pairs_by_table : {list after : List ℕ} {r : Result ℕ Refusal} → Pairs table list r after → said why ≡ verdict table → r ≡ Err why
   pairs_by_table {list} p e = (pairs_one p (pairing.refused_pairs table list why e)).0
 
-  pub judge_by_table : {order output after : List ℕ} {r : judged.Judged} → Judges table order output r after → said why ≡ verdict table
-      → r ≡ judged.TheVariants.Refused why
+  pub judge_by_table : {order output after : List ℕ} {r : Result Unit Refusal} → Judges table order output r after → said why ≡ verdict table
+      → r ≡ Err why
   judge_by_table {order} {output} j e = (judge_one j (judging.refused_judges table order output why e)).0
 
 -- ---- room
@@ -62,32 +60,32 @@ room_exact room needed few enough apart = (
   exactly (⊎_elim inr inl (less room needed)) enough (λ h e. apart (sym e ∙ few h)),
 )
 
-module _ {table area after : List ℕ} {r : built.Built} (t : IsTable table) (b : Builds table area r after) where
-  build_room : ((r ≡ built.TheVariants.Refused ShortArea) ↔ (length area < words_needed table))
-      × ((r ≡ built.TheVariants.Done (words_needed table)) ↔ (words_needed table ≤ length area))
-  unfolding built_said
+module _ {table area after : List ℕ} {r : Result ℕ Refusal} (t : IsTable table) (b : Builds table area r after) where
+  build_room : ((r ≡ Err ShortArea) ↔ (length area < words_needed table))
+      × ((r ≡ Ok (words_needed table)) ↔ (words_needed table ≤ length area))
+  unfolding told
   build_room =
       room_exact (length area) (words_needed table) (λ h. (build_one b (building.short_builds table area t.accepted h)).0)
       (λ h. (build_one b (building.done_builds table area t.accepted h)).0) (λ e. not_done ShortArea (ap built_said e))
 
-  pub build_short : (r ≡ built.TheVariants.Refused ShortArea) ↔ (length area < words_needed table)
+  pub build_short : (r ≡ Err ShortArea) ↔ (length area < words_needed table)
   build_short = build_room.0
 
-  pub build_done : (r ≡ built.TheVariants.Done (words_needed table)) ↔ (words_needed table ≤ length area)
+  pub build_done : (r ≡ Ok (words_needed table)) ↔ (words_needed table ≤ length area)
   build_done = build_room.1
 
-module _ {table list after : List ℕ} {r : paired.Paired} (t : IsTable table) (p : Pairs table list r after) where
-  pairs_room : ((r ≡ paired.TheVariants.Refused ShortList) ↔ (length list < 2 * pair_count table))
-      × ((r ≡ paired.TheVariants.Listed (pair_count table)) ↔ (2 * pair_count table ≤ length list))
-  unfolding paired_said
+module _ {table list after : List ℕ} {r : Result ℕ Refusal} (t : IsTable table) (p : Pairs table list r after) where
+  pairs_room : ((r ≡ Err ShortList) ↔ (length list < 2 * pair_count table))
+      × ((r ≡ Ok (pair_count table)) ↔ (2 * pair_count table ≤ length list))
+  unfolding told
   pairs_room =
       room_exact (length list) (2 * pair_count table) (λ h. (pairs_one p (pairing.short_pairs table list t.accepted h)).0)
       (λ h. (pairs_one p (pairing.listed_pairs table list t.accepted h)).0) (λ e. not_done ShortList (ap paired_said e))
 
-  pub pairs_short : (r ≡ paired.TheVariants.Refused ShortList) ↔ (length list < 2 * pair_count table)
+  pub pairs_short : (r ≡ Err ShortList) ↔ (length list < 2 * pair_count table)
   pairs_short = pairs_room.0
 
-  pub pairs_done : (r ≡ paired.TheVariants.Listed (pair_count table)) ↔ (2 * pair_count table ≤ length list)
+  pub pairs_done : (r ≡ Ok (pair_count table)) ↔ (2 * pair_count table ≤ length list)
   pairs_done = pairs_room.1
 
 -- ---- orders
@@ -100,7 +98,7 @@ is_order_lem table order =
       λ e. let x = exact.0 e in record { size = x.0; below = x.1.small; unrepeated = x.1.differ },
     )
 
-module _ {table order output after : List ℕ} {r : judged.Judged} (t : IsTable table) (j : Judges table order output r after) where
+module _ {table order output after : List ℕ} {r : Result Unit Refusal} (t : IsTable table) (j : Judges table order output r after) where
   abbrev rules : List Rule
   rules = rules_of table
 
@@ -108,11 +106,11 @@ module _ {table order output after : List ℕ} {r : judged.Judged} (t : IsTable 
   last = crossing_said rules (crossing rules order)
 
   -- a refusal that is answered is what is said
-  answered : {why : Refusal} → r ≡ judged.TheVariants.Refused why → {says : List ℕ} → judge_said table order output ≡ says → get_or (said why) 0 0 ≡ get_or says 0 0
-  unfolding judged_said
+  answered : {why : Refusal} → r ≡ Err why → {says : List ℕ} → judge_said table order output ≡ says → get_or (said why) 0 0 ≡ get_or says 0 0
+  unfolding told
   answered e q = ap (λ (l : List ℕ). get_or l 0 0) (sym (ap judged_said e) ∙ j.answer ∙ q)
 
-  pub judge_no_order : (r ≡ judged.TheVariants.Refused NotAnOrder) ↔ (IsOrder table order → ⊥)
+  pub judge_no_order : (r ≡ Err NotAnOrder) ↔ (IsOrder table order → ⊥)
   unfolding said
   judge_no_order =
       exactly (⊎_elim (λ e. inr e) (λ e. inl (λ x. clash ((is_order_lem table order).0 x) e)) (decided (is_order (rule_count table) order)))
@@ -122,7 +120,7 @@ module _ {table order output after : List ℕ} {r : judged.Judged} (t : IsTable 
       (crossing_never 11 rules (crossing rules order) (λ q. omega arith) (λ q. omega arith))
       (sym (answered e (judging.past_order table order output t.accepted ordered))))
 
-  pub judge_short : IsOrder table order → (r ≡ judged.TheVariants.Refused ShortOutput) ↔ (length output < length table)
+  pub judge_short : IsOrder table order → (r ≡ Err ShortOutput) ↔ (length output < length table)
   unfolding said
   judge_short x =
       let ordered = (is_order_lem table order).0 x in

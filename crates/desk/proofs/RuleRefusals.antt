@@ -1,5 +1,6 @@
 -- The refusal of one rule through the calls that judge a table: it comes exactly where its fault is the table's first, whatever else is lent.
 -- Assumes nothing.
+use Rattle.std.specs.Prelude.{Result, Err}
 use mathlib.Core.Path.{◌≡◌, refl, sym, ap, ◌∙◌}
 use mathlib.Core.Logic.{◌↔◌}
 use mathlib.Core.List.{List, [], ◌∷◌}
@@ -8,13 +9,10 @@ use native.Mathlib.Omega.{arith}
 use lib.ListN.{get_or}
 use Rattle.rules.specs.declared.Refusal.{Refusal}
 use Rattle.rules.specs.declared.Refusal.TheVariants.{UnknownAction, StrayPort}
-use Rattle.rules.specs.Refusal.{said, first_refusal}
+use Rattle.rules.specs.Refusal.{told, said, first_refusal}
 use Rattle.rules.specs.Table.{rules_of, verdict}
 use Rattle.rules.proofs.FaultLaws.{verdict_fault}
 use Rattle.overlap.specs.Judge.{crossing}
-use Rattle.desk.specs.declared.Built as built
-use Rattle.desk.specs.declared.Paired as paired
-use Rattle.desk.specs.declared.Judged as judged
 use Rattle.desk.specs.Lent.{room_said}
 use Rattle.desk.specs.BuildCall.{built_said, words_needed, build_said, Builds}
 use Rattle.desk.specs.PairsCall.{paired_said, pair_count, pairs_said, Pairs}
@@ -36,10 +34,10 @@ first_verdict n says (suc m ∷ vs) rest named never e = e
 
 -- a fault to the three calls: each is refused with it exactly where it is the table's first
 pub record Refuses (why : Refusal) (First : List ℕ → Type 0) : Type 0 where
-  pub build : {table area after : List ℕ} {r : built.Built} → Builds table area r after → (r ≡ built.TheVariants.Refused why) ↔ First table
-  pub pairs : {table list after : List ℕ} {r : paired.Paired} → Pairs table list r after → (r ≡ paired.TheVariants.Refused why) ↔ First table
-  pub judge : {table order output after : List ℕ} {r : judged.Judged} → Judges table order output r after
-      → (r ≡ judged.TheVariants.Refused why) ↔ First table
+  pub build : {table area after : List ℕ} {r : Result ℕ Refusal} → Builds table area r after → (r ≡ Err why) ↔ First table
+  pub pairs : {table list after : List ℕ} {r : Result ℕ Refusal} → Pairs table list r after → (r ≡ Err why) ↔ First table
+  pub judge : {table order output after : List ℕ} {r : Result Unit Refusal} → Judges table order output r after
+      → (r ≡ Err why) ↔ First table
 
 -- the fault's number, which no check after the table's has, and the refusal that names it
 module _ {Fault : List ℕ → Type 0} {n : ℕ} (exact : Numbers (suc n) Fault) (apart : (later : ℕ) → 7 ≤ later → later ≤ 13 → suc n ≡ later → ⊥)
@@ -55,26 +53,26 @@ module _ {Fault : List ℕ → Type 0} {n : ℕ} (exact : Numbers (suc n) Fault)
   at_fault : (table : List ℕ) → FirstAt Fault table place → said why ≡ verdict table
   at_fault table f = says ∙ sym ((verdict_fault table n place).1 ((first_at exact table place).1 f))
 
-  build_refused : {table area after : List ℕ} {r : built.Built} → Builds table area r after
-      → (r ≡ built.TheVariants.Refused why) ↔ FirstAt Fault table place
-  unfolding built_said build_said
+  build_refused : {table area after : List ℕ} {r : Result ℕ Refusal} → Builds table area r after
+      → (r ≡ Err why) ↔ FirstAt Fault table place
+  unfolding told build_said
   build_refused {table} {area} b = (
     λ e. fault_at table (room_said 7 (words_needed table) area (words_needed table))
         (room_never (suc n) 7 (words_needed table) area (words_needed table) above (apart 7 (omega arith) (omega arith))) (sym b.answer ∙ ap built_said e),
     λ f. (build_one b (refused_builds table area why (at_fault table f))).0,
   )
 
-  pairs_refused : {table list after : List ℕ} {r : paired.Paired} → Pairs table list r after
-      → (r ≡ paired.TheVariants.Refused why) ↔ FirstAt Fault table place
-  unfolding paired_said pairs_said
+  pairs_refused : {table list after : List ℕ} {r : Result ℕ Refusal} → Pairs table list r after
+      → (r ≡ Err why) ↔ FirstAt Fault table place
+  unfolding told pairs_said
   pairs_refused {table} {list} p = (
     λ e. fault_at table _ (room_never (suc n) 10 _ list (pair_count table) above (apart 10 (omega arith) (omega arith))) (sym p.answer ∙ ap paired_said e),
     λ f. (pairs_one p (refused_pairs table list why (at_fault table f))).0,
   )
 
-  judge_refused : {table order output after : List ℕ} {r : judged.Judged} → Judges table order output r after
-      → (r ≡ judged.TheVariants.Refused why) ↔ FirstAt Fault table place
-  unfolding judged_said judge_said
+  judge_refused : {table order output after : List ℕ} {r : Result Unit Refusal} → Judges table order output r after
+      → (r ≡ Err why) ↔ FirstAt Fault table place
+  unfolding told judge_said
   judge_refused {table} {order} {output} j =
       let last = crossing_said (rules_of table) (crossing (rules_of table) order) in
       let later = first_refusal (output_said table output) last in (

@@ -3,7 +3,7 @@
 use mathlib.Core.Path.{◌≡◌, sym}
 use mathlib.Core.Bool.{Bool, true, false, cond}
 use mathlib.Core.List.{List, [], ◌∷◌}
-use mathlib.Core.Option.{Option, none, some}
+use Rattle.std.specs.Prelude.{Option, None, Some}
 use Prim.Native.Nat.{ℕ, zero, suc}
 use lib.Dec.{ltb}
 use lib.ListN.{length, get_or}
@@ -46,5 +46,5 @@ module _ (n : ℕ) where
 
   pub crossing_never : (rules : List Rule) (o : Option Pair) → (n ≡ 0 → ⊥) → (n ≡ 13 → ⊥) → NotSaid n (crossing_said rules o)
   unfolding crossing_said
-  crossing_never rules none p q = λ e. p (sym e)
-  crossing_never rules (some c) p q = λ e. q (sym e)
+  crossing_never rules None p q = λ e. p (sym e)
+  crossing_never rules (Some c) p q = λ e. q (sym e)

@@ -9,7 +9,8 @@ use Prim.Native.Nat.{ℕ, ◌<◌}
 use Rattle.bits.specs.Number.{Bytes}
 use Rattle.bits.specs.Path.{leads}
 use Rattle.bits.specs.Tests.{all}
-use Rattle.rules.specs.Field.{Field, fields}
+use Rattle.rules.specs.declared.fields.Field.{Field}
+use Rattle.rules.specs.Field.{fields}
 use Rattle.rules.specs.Rule.{rule_of}
 use Rattle.rules.specs.Header.{header_values}
 use Rattle.rules.specs.Match.{matches, rule_at}

@@ -1,19 +1,17 @@
 -- Building the index of a rule table in a lent area.
 -- Assumes nothing.
-use Rattle.std.specs.Prelude.{◌≡◌, List, [], ◌∷◌, ◌++◌, ℕ, drop}
-use Rattle.rules.specs.Refusal.{said, first_refusal}
+use Rattle.rules.specs.declared.Refusal.{Refusal}
+use Rattle.std.specs.Prelude.{◌≡◌, List, [], ◌∷◌, ◌++◌, ℕ, drop, Result}
+use Rattle.rules.specs.Refusal.{told, first_refusal}
 use Rattle.rules.specs.Table.{rules_of, verdict}
 use Rattle.area.specs.Shape.{desk_shape}
 use Rattle.index.specs.Image.{image}
 use Rattle.index.specs.Need.{need}
-use Rattle.desk.specs.declared.Built.{Built}
-use Rattle.desk.specs.declared.Built.TheVariants.{Done, Refused}
 use Rattle.desk.specs.Lent.{room_said, lent_after}
 
 -- an answer in 01's numbers: done, with the number of words written, or a refusal
-unfoldable pub built_said : Built → List ℕ
-built_said (Done words) = 0 ∷ words ∷ []
-built_said (Refused r) = said r
+abbrev pub built_said : Result ℕ Refusal → List ℕ
+built_said = told (λ words. words ∷ [])
 
 abbrev pub words_needed : List ℕ → ℕ
 words_needed table = need desk_shape (rules_of table)
@@ -27,6 +25,6 @@ unfoldable pub area_left : List ℕ → List ℕ → List ℕ
 area_left table area = lent_after (build_said table area) (image desk_shape (rules_of table) ++ drop (words_needed table) area) area
 
 -- what `build` answers and leaves, for any table and any area
-pub record Builds (table area : List ℕ) (r : Built) (after : List ℕ) : Type 0 where
+pub record Builds (table area : List ℕ) (r : Result ℕ Refusal) (after : List ℕ) : Type 0 where
   pub answer : built_said r ≡ build_said table area
   pub lent : after ≡ area_left table area

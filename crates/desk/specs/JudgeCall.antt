@@ -1,24 +1,22 @@
 -- Judging a proposed order, and writing the moved table where it is allowed.
 -- Assumes nothing.
-use Rattle.std.specs.Prelude.{◌≡◌, cond, List, [], ◌∷◌, ◌++◌, ℕ, ltb, length, drop}
-use Rattle.std.proofs.Math.Option.{Option, none, some}
+use Rattle.rules.specs.declared.Refusal.{Refusal}
+use Rattle.std.specs.Prelude.{◌≡◌, cond, List, [], ◌∷◌, ◌++◌, ℕ, ltb, length, drop, Result}
+use Rattle.std.specs.Prelude.{Option, None, Some}
 use Rattle.rules.specs.Rule.{Rule}
 use Rattle.rules.specs.Match.{rule_at}
 use Rattle.rules.specs.Overlap.{lowest_shared}
 use Rattle.rules.specs.Header.{header_bytes}
-use Rattle.rules.specs.Refusal.{said, first_refusal}
+use Rattle.rules.specs.Refusal.{checked_said, first_refusal}
 use Rattle.rules.specs.Table.{rule_count, rules_of, verdict}
 use Rattle.overlap.specs.Pairs.{Pair}
 use Rattle.overlap.specs.Order.{is_order, moved_table}
 use Rattle.overlap.specs.Judge.{crossing}
-use Rattle.desk.specs.declared.Judged.{Judged}
-use Rattle.desk.specs.declared.Judged.TheVariants.{Allowed, Refused}
 use Rattle.desk.specs.Lent.{lent_after}
 
 -- an answer in 01's numbers: done, or a refusal
-unfoldable pub judged_said : Judged → List ℕ
-judged_said Allowed = 0 ∷ []
-judged_said (Refused r) = said r
+abbrev pub judged_said : Result Unit Refusal → List ℕ
+judged_said = checked_said
 
 -- 11: "order's length is not the rule count, or an entry is repeated or too large"
 unfoldable pub order_said : List ℕ → List ℕ → List ℕ
@@ -30,8 +28,8 @@ output_said table output = cond (ltb (length output) (length table)) (12 ∷ [])
 
 -- 13: "the answer names the first pair by old places .. and their lowest shared header"
 unfoldable pub crossing_said : List Rule → Option Pair → List ℕ
-crossing_said rules none = 0 ∷ []
-crossing_said rules (some p) = 13 ∷ p.lower ∷ p.higher ∷ header_bytes (lowest_shared (rule_at rules p.lower) (rule_at rules p.higher))
+crossing_said rules None = 0 ∷ []
+crossing_said rules (Some p) = 13 ∷ p.lower ∷ p.higher ∷ header_bytes (lowest_shared (rule_at rules p.lower) (rule_at rules p.higher))
 
 -- "Moves: 1, 2, rules, 11, 12, 13."
 unfoldable pub judge_said : List ℕ → List ℕ → List ℕ → List ℕ
@@ -46,6 +44,6 @@ unfoldable pub judge_left : List ℕ → List ℕ → List ℕ → List ℕ
 judge_left table order output = lent_after (judge_said table order output) (moved_table table order ++ drop (length table) output) output
 
 -- what `judge` answers and leaves, for any table, any order and any output
-pub record Judges (table order output : List ℕ) (r : Judged) (after : List ℕ) : Type 0 where
+pub record Judges (table order output : List ℕ) (r : Result Unit Refusal) (after : List ℕ) : Type 0 where
   pub answer : judged_said r ≡ judge_said table order output
   pub lent : after ≡ judge_left table order output

@@ -1,20 +1,19 @@
 -- The words of the three demands, said of bytes and of what the calls answer. The page of promises, Promises.antt, is written in them.
 -- Assumes nothing.
-use Rattle.std.specs.Prelude.{◌≡◌, ◌↔◌, ◌⊎◌, true, false, List, ◌++◌, ℕ, ◌+◌, ◌*◌, ◌%◌, ◌≤◌, ◌<◌, leb, length, get_or, take}
+use Rattle.rules.specs.declared.Refusal.{Refusal}
+use Rattle.lookup.specs.declared.Answer.{Answer}
+use Rattle.std.specs.Prelude.{◌≡◌, ◌↔◌, ◌⊎◌, true, false, List, ◌++◌, ℕ, ◌+◌, ◌*◌, ◌%◌, ◌≤◌, ◌<◌, leb, length, get_or, take, Some, Result, Ok}
 use Rattle.bits.specs.Number.{Bytes}
 use Rattle.bits.specs.Path.{Path, bits, prefix, leads}
 use Rattle.bits.specs.Tests.{all, each}
 use Rattle.rules.specs.declared.Action.{Action}
-use Rattle.rules.specs.declared.Decoded.TheVariants.{Known}
-use Rattle.rules.specs.Field.{Field, fields, field_at, source_port, destination_port, protocol, value_in, length_in}
+use Rattle.rules.specs.declared.fields.Field.{Field}
+use Rattle.rules.specs.Field.{fields, field_at, source_port, destination_port, protocol, value_in, length_in}
 use Rattle.rules.specs.Action.{action_in}
 use Rattle.rules.specs.Header.{header_size, header_values}
 use Rattle.rules.specs.Table.{record_size, most_rules, rule_count, record_at, Accepted}
 use Rattle.overlap.specs.Order.{old_place, new_place}
-use Rattle.lookup.specs.declared.Looked.{Looked}
-use Rattle.lookup.specs.declared.Looked.TheVariants.{Found}
 use Rattle.lookup.specs.declared.Outcome.TheVariants.{NoMatch, Match}
-use Rattle.desk.specs.declared.Built.TheVariants.{Done}
 use Rattle.desk.specs.BuildCall.{Builds}
 use Rattle.desk.specs.LookCall.{Looks}
 
@@ -116,7 +115,7 @@ NoneFits table header = (place : ℕ) → place < rule_count table → Fits head
 pub record Wins (table header : List ℕ) (place : ℕ) (action : Action) : Type 0 where
   pub inside : place < rule_count table
   pub fits : Fits header (record_at table place)
-  pub carries : action_in (record_at table place) ≡ Known action
+  pub carries : action_in (record_at table place) ≡ Some action
   pub lowest : (lower : ℕ) → lower < place → Fits header (record_at table lower) → ⊥
 
 -- ---- two rules
@@ -177,20 +176,20 @@ pub record IsIndex (table area : List ℕ) : Type 0 where
   pub lent : List ℕ
   pub left : List ℕ
   pub words : ℕ
-  pub built : Builds table lent (Done words) left
+  pub built : Builds table lent (Ok words) left
   pub unchanged : take words area ≡ take words left
 
 -- a match at a place with an action
-abbrev pub Matched : Looked → ℕ → Action → Type 0
-Matched r place action = (falses : ℕ) × (r ≡ Found (record { falses = falses; outcome = Match place action }))
+abbrev pub Matched : Result Answer Refusal → ℕ → Action → Type 0
+Matched r place action = (falses : ℕ) × (r ≡ Ok (record { falses = falses; outcome = Match place action }))
 
 -- a match with an action, at any place
-abbrev pub Gets : Looked → Action → Type 0
+abbrev pub Gets : Result Answer Refusal → Action → Type 0
 Gets r action = (place : ℕ) × Matched r place action
 
 -- no match
-abbrev pub Unmatched : Looked → Type 0
-Unmatched r = (falses : ℕ) × (r ≡ Found (record { falses = falses; outcome = NoMatch }))
+abbrev pub Unmatched : Result Answer Refusal → Type 0
+Unmatched r = (falses : ℕ) × (r ≡ Ok (record { falses = falses; outcome = NoMatch }))
 
 -- ---- what refusal 13 shows
 
@@ -199,7 +198,7 @@ Unmatched r = (falses : ℕ) × (r ≡ Found (record { falses = falses; outcome 
 pub record Differ (a b header : List ℕ) : Type 0 where
   pub there_table : IsTable (a ++ b)
   pub back_table : IsTable (b ++ a)
-  pub answers_differ : {there back : List ℕ} {first second : Looked} → IsIndex (a ++ b) there → Looks (a ++ b) there header first
+  pub answers_differ : {there back : List ℕ} {first second : Result Answer Refusal} → IsIndex (a ++ b) there → Looks (a ++ b) there header first
       → IsIndex (b ++ a) back → Looks (b ++ a) back header second → (x y : Action) × Gets first x × Gets second y × (x ≡ y → ⊥)
 
 -- "the first pair by old places (lower, then higher) that changes order, shares a header and differs in action, and their lowest shared

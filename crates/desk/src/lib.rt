@@ -8,88 +8,61 @@ ghost use Rattle.desk.specs.LookCall.{Looks};
 ghost use Rattle.desk.specs.PairsCall.{Pairs};
 ghost use Rattle.desk.specs.Show.{Shows};
 
-use overlap::Obstacle;
-use rules::{Checked, Refusal};
+use rules::{Refusal, Table};
 
-#[derive(Clone, Copy)]
-pub enum Built {
-    // The number of words that the index takes.
-    Done(usize),
-    Refused(Refusal),
-}
-
-// The index of the table, written to the lent area; its further words keep their values.
-pub fn build(table: &[u8], area: &mut [u32]) -> Built
+// The index of the table, written to the lent area; its further words keep their values. The answer is the number of words that the
+// index takes.
+pub fn build(table: &[u8], area: &mut [u32]) -> Result<usize, Refusal>
     ensures { Builds table.now area.old result area.new }
 {
-    if let Checked::Refused(refusal) = rules::check_table(table) {
-        return Built::Refused(refusal);
-    }
+    let table = Table::try_from(table)?;
     let words = index::words_needed(table);
     if area.len() < words {
-        return Built::Refused(Refusal::ShortArea);
+        return Err(Refusal::ShortArea);
     }
     index::write(table, area);
-    Built::Done(words)
+    Ok(words)
 }
 
 // A header over any table and any area: the match or no match, with the number of false blocks, or
 // the refusal. Over the index of an accepted table, unchanged, it is what table and header fix.
-pub fn lookup(table: &[u8], area: &[u32], header: &[u8]) -> lookup::Looked
+pub fn lookup(table: &[u8], area: &[u32], header: &[u8]) -> Result<lookup::Answer, Refusal>
     ensures { Looks table.now area.now header.now result }
 {
     lookup::look(table, area, header)
 }
 
-#[derive(Clone, Copy)]
-pub enum Paired {
-    Listed(usize),
-    Refused(Refusal),
-}
-
 // The pairs of rules that share a header while neither covers the other, written to the lent list by
 // their places; the answer is their number.
-pub fn pairs(table: &[u8], list: &mut [u16]) -> Paired
+pub fn pairs(table: &[u8], list: &mut [u16]) -> Result<usize, Refusal>
     ensures { Pairs table.now list.old result list.new }
 {
-    if let Checked::Refused(refusal) = rules::check_table(table) {
-        return Paired::Refused(refusal);
-    }
+    let table = Table::try_from(table)?;
     let count = overlap::count_pairs(table);
     if list.len() < 2 * count {
-        return Paired::Refused(Refusal::ShortList);
+        return Err(Refusal::ShortList);
     }
     overlap::write_pairs(table, list);
-    Paired::Listed(count)
-}
-
-// What `judge` answers.
-#[derive(Clone, Copy)]
-pub enum Judged {
-    Allowed,
-    Refused(Refusal),
+    Ok(count)
 }
 
 // Whether the rules may be put in the proposed order; if they may, the moved table is written to the lent
 // output.
-pub fn judge(table: &[u8], order: &[u16], output: &mut [u8]) -> Judged
+pub fn judge(table: &[u8], order: &[u16], output: &mut [u8]) -> Result<(), Refusal>
     ensures { Judges table.now order.now output.old result output.new }
 {
-    if let Checked::Refused(refusal) = rules::check_table(table) {
-        return Judged::Refused(refusal);
+    let table = Table::try_from(table)?;
+    let Some(places) = overlap::check_order(order, table.len()) else {
+        return Err(Refusal::NotAnOrder);
+    };
+    if output.len() < table.bytes.len() {
+        return Err(Refusal::ShortOutput);
     }
-    let inverse = overlap::check_order(order, table.len() / rules::RECORD_BYTES);
-    if !inverse.valid {
-        return Judged::Refused(Refusal::NotAnOrder);
-    }
-    if output.len() < table.len() {
-        return Judged::Refused(Refusal::ShortOutput);
-    }
-    if let Obstacle::Crossed(crossing) = overlap::first_crossing(table, inverse) {
-        return Judged::Refused(Refusal::NotAllowed(crossing));
+    if let Some(crossing) = overlap::first_crossing(table, &places) {
+        return Err(Refusal::NotAllowed(crossing));
     }
     overlap::write_moved(table, order, output);
-    Judged::Allowed
+    Ok(())
 }
 
 // The rule at a place: the record's own 24 bytes as a part of the table, or an empty part where no

@@ -21,7 +21,7 @@ use Rattle.overlap.specs.Steps.{listed_with, listed_from}
 use Rattle.overlap.proofs.LoopLaws.{row_few, rows_parts, rows_done, rows_all}
 use Rattle.desk.specs.BuildCall.{words_needed}
 use Rattle.desk.specs.PairsCall.{pair_count}
-use Rattle.desk.proofs.BuildLaws.{all_sound}
+use Rattle.rules.proofs.TableLaws.{accepted_record}
 
 -- ---- words: a rule adds at most as many records as its prefixes have bits, 32, 32, 16, 16 and 8
 
@@ -42,7 +42,7 @@ module _ (table : List ℕ) (ok : Accepted table) where
   records_first zero h = omega (arith, records_none table)
   records_first (suc i) h =
       let earlier = inserts 5 (take i (rules_of table)) in
-      let added = rule_adds (record_at table i) ((all_sound table ok).each i h) earlier in
+      let added = rule_adds (record_at table i) (accepted_record table ok i h) earlier in
       rw (← add-one i) (omega (arith, records_first i (omega arith), records_more table i h, ap (fresh earlier) (rule_inserts_lem table i h), added))
 
   pub enough_words : words_needed table ≤ 11 * (5 + 104 * rule_count table)

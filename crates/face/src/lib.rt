@@ -12,10 +12,10 @@ ghost use Rattle.lookup.specs.Look.{look_said};
 ghost use Rattle.face.specs.Hands.{Hands};
 ghost use Rattle.face.specs.Points.{Points};
 
-use desk::{Built, Judged, Paired};
-use lookup::Looked;
+use answers::carrying;
 
-// An answer in 01's numbers: the number, how many values it carries, and these values; zeros follow them.
+// An answer in 01's numbers: the number, how many values it carries, and these values; zeros follow them. Numbers and no enum, since C
+// reads it.
 #[repr(C)]
 #[derive(Clone, Copy)]
 pub struct Answer {
@@ -24,7 +24,7 @@ pub struct Answer {
     pub values: [u64; 15],
 }
 
-// A part of the caller's table: where it starts and how many bytes it has.
+// A part of the caller's table: where it starts and how many bytes it has, since C is handed no reference.
 #[repr(C)]
 #[derive(Clone, Copy)]
 pub struct Part {
@@ -37,20 +37,14 @@ pub fn ruledesk_build(table: &[u8], area: &mut [u32]) -> Answer
     ensures hands { Hands (build_said table.now area.old) result }
     ensures lent { area.new ≡ area_left table.now area.old }
 {
-    match desk::build(table, area) {
-        Built::Done(words) => answers::with_value(0, words),
-        Built::Refused(refusal) => answers::refused(refusal),
-    }
+    desk::build(table, area).map_or_else(Answer::from, |words| carrying(0, [words as u64]))
 }
 
 // Done carries the number of false blocks; then 1, the place, the action's kind and its feed, or 0 where no rule matches.
 pub fn ruledesk_lookup(table: &[u8], area: &[u32], header: &[u8]) -> Answer
     ensures { Hands (look_said table.now area.now header.now) result }
 {
-    match desk::lookup(table, area, header) {
-        Looked::Found(answer) => answers::looked(answer),
-        Looked::Refused(refusal) => answers::refused(refusal),
-    }
+    desk::lookup(table, area, header).map_or_else(Answer::from, Answer::from)
 }
 
 // Done carries the number of pairs.
@@ -58,10 +52,7 @@ pub fn ruledesk_pairs(table: &[u8], list: &mut [u16]) -> Answer
     ensures hands { Hands (pairs_said table.now list.old) result }
     ensures lent { list.new ≡ pairs_left table.now list.old }
 {
-    match desk::pairs(table, list) {
-        Paired::Listed(count) => answers::with_value(0, count),
-        Paired::Refused(refusal) => answers::refused(refusal),
-    }
+    desk::pairs(table, list).map_or_else(Answer::from, |count| carrying(0, [count as u64]))
 }
 
 // Done carries nothing.
@@ -69,10 +60,7 @@ pub fn ruledesk_judge(table: &[u8], order: &[u16], output: &mut [u8]) -> Answer
     ensures hands { Hands (judge_said table.now order.now output.old) result }
     ensures lent { output.new ≡ judge_left table.now order.now output.old }
 {
-    match desk::judge(table, order, output) {
-        Judged::Allowed => answers::plain(0),
-        Judged::Refused(refusal) => answers::refused(refusal),
-    }
+    desk::judge(table, order, output).map_or_else(Answer::from, |()| carrying(0, []))
 }
 
 // What is exported hands back no reference, so the part is named by its start and its length.

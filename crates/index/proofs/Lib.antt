@@ -7,6 +7,7 @@ pub mod OrderLaws
 pub mod VectorLaws
 pub mod ImageLaws
 pub mod NeedLaws
+pub mod SumLaws
 pub mod StepLaws
 pub mod MarkLaws
 pub mod Recorded

@@ -142,10 +142,6 @@ module _ (table : List ℕ) (i : ℕ) (inside : i < rule_count table) where
       add_assoc 5 (fresh [] before) (fresh before (rule_inserts 0 5 (rule_at (rules_of table) i)))
       ∙ ap (λ (n : ℕ). 5 + n) (sym (fresh_append [] before (rule_inserts 0 5 (rule_at (rules_of table) i))) ∙ ap (fresh []) (sym inserts_more))
 
-pub longest_none : (table : List ℕ) (k : Key) → longest k (inserts 5 (take 0 (rules_of table))) ≡ 0
-unfolding longest inserts
-longest_none table k = refl
-
 pub records_none : (table : List ℕ) → records 5 (take 0 (rules_of table)) ≡ 5
 unfolding records fresh inserts
 records_none table = refl

@@ -1,28 +1,26 @@
 -- Laws of the growing steps: each keeps an area ready where there is room, so that a run of them can be taken one after another.
 -- Assumes nothing.
-use mathlib.Core.Path.{◌≡◌, ◌∙◌}
+use mathlib.Core.Path.{◌≡◌, ap, ap₂, ◌∙◌}
 use mathlib.Core.List.{List}
 use Prim.Native.Nat.{ℕ, ◌+◌, ◌*◌, ◌≤◌, ◌<◌}
-use native.Mathlib.Nat.{le_refl}
 use native.Mathlib.Omega.{arith}
 use lib.ListN.{length}
 use Rattle.rules.specs.Field.{field_at, value_in, length_in}
-use Rattle.rules.specs.Table.{rule_count, record_at}
+use Rattle.rules.specs.Table.{rule_count, record_at, Accepted}
+use Rattle.rules.proofs.TableLaws.{accepted_sound}
+use Rattle.bits.specs.declared.prefixes.Prefix.{Prefix}
+use Rattle.area.specs.declared.grow.Growth.{Growth}
+use Rattle.area.specs.Growing.{standing, HasRoom, IsGrown}
 use Rattle.area.specs.Shape.{record_words}
 use Rattle.area.specs.Upto.{upto}
 use Rattle.area.specs.Grow.{zeroed, State, mk, walked, inserted, Kids, Ready, Roomy}
 use Rattle.area.proofs.ZeroLaws.{length_zeroed, zeroed_inside}
-use Rattle.area.proofs.GrowLaws.{walked_le, walked_ready, bit_kids, bit_length, StateKept, Good, upto_good}
+use Rattle.area.proofs.GrowLaws.{walked_good, bit_kids, bit_length, growth_ready, StateKept, Good, upto_good, turn}
 use Rattle.index.specs.Steps.{field_in, rule_in, rules_in, cleared, all_in}
 
 -- a field's root may be stood at
 pub field_start : (s : State) (f : ℕ) → f < 5 → Ready s → Ready (mk s.area f s.next)
 field_start s f h r = record { roots = r.roots; inside = omega (arith, r.roots); whole = r.whole; kids = r.kids }
-
-pub field_room : (bytes : List ℕ) (i f m : ℕ) (s : State) → Roomy (field_in bytes i f s) m
-    → Roomy (walked (field_at f).width (value_in bytes (field_at f)) (length_in bytes (field_at f)) (mk s.area f s.next)) m
-unfolding field_in inserted
-field_room bytes i f m s r = record { room = r.room; small = r.small }
 
 module _ (bytes : List ℕ) (i f : ℕ) (hi : i < 256) (hf : f < 5) where
   abbrev w : ℕ
@@ -35,18 +33,17 @@ module _ (bytes : List ℕ) (i f : ℕ) (hi : i < 256) (hf : f < 5) where
   l = length_in bytes (field_at f)
 
   pub field_good : Good (field_in bytes i f)
-  unfolding field_in inserted walked upto
+  unfolding field_in inserted
   field_good = record {
-    more = λ s. walked_le w v (mk s.area f s.next) 0 l (omega arith);
+    more = λ s. (walked_good w v l).more (mk s.area f s.next);
     keeps = λ s r room.
-        let s₀ = mk s.area f s.next in
         let start = field_start s f hf r in
-        let end = walked_ready w v l s₀ start (record { room = room.room; small = room.small }) l (le_refl _) in
-        let t = walked w v l s₀ in
+        let end = (walked_good w v l).keeps (mk s.area f s.next) start (record { room = room.room; small = room.small }) in
+        let t = walked w v l (mk s.area f s.next) in
         let same = bit_length t.at i t.area in
         record {
-          ready = record { roots = end.1.roots; inside = omega (arith, end.1.roots); whole = rw same end.1.whole; kids = bit_kids _ i _ _ hi end.1.kids };
-          long = same ∙ end.0;
+          ready = record { roots = end.ready.roots; inside = omega (arith, end.ready.roots); whole = rw same end.ready.whole; kids = bit_kids _ i _ _ hi end.ready.kids };
+          long = same ∙ end.long;
         };
   }
 
@@ -54,8 +51,26 @@ pub rule_good : (bytes : List ℕ) (i : ℕ) → i < 256 → Good (rule_in bytes
 unfolding rule_in
 rule_good bytes i hi = upto_good (field_in bytes i) 5 (λ f hf. field_good bytes i f hi hf)
 
-pub rules_good : (table : List ℕ) → rule_count table ≤ 256 → (i : ℕ) → i < rule_count table → Good (rule_in (record_at table i) i)
-rules_good table h i hi = rule_good (record_at table i) i (omega arith)
+pub rules_good : (table : List ℕ) → Accepted table → (i : ℕ) → i < rule_count table → Good (rule_in (record_at table i) i)
+rules_good table accepted i hi = rule_good (record_at table i) i (omega (arith, (accepted_sound table accepted).few))
+
+-- ---- a growing area
+
+-- of a prefix that is read from a record: what its insertion asks, and what that leaves
+module _ (bytes : List ℕ) (i f : ℕ) (p : Prefix) (value : p.value ≡ value_in bytes (field_at f)) (len : p.len ≡ length_in bytes (field_at f))
+    (width : p.width ≡ (field_at f).width) (g : Growth) where
+  pub field_asks : HasRoom g (field_in bytes i f (standing g 0)) → HasRoom g (walked p.width p.value p.len (standing g f))
+  unfolding field_in inserted
+  field_asks r = rw (value, len, width) (record { room = r.room; small = r.small })
+
+  pub field_done : (h : Growth) → IsGrown h (inserted p.width p.value p.len i (standing g f)) → standing h 0 ≡ field_in bytes i f (standing g 0)
+  unfolding field_in
+  field_done h grown = let e = rw (value, len, width) at grown in ap₂ (λ (a : List ℕ) (n : ℕ). mk a 0 n) e.0 e.1
+
+-- of a run of steps: there is room for each turn
+module _ (step : ℕ → State → State) (n : ℕ) (good : (j : ℕ) → j < n → Good (step j)) (g : Growth) (room : HasRoom g (upto step n (standing g 0))) where
+  pub growth_turn : (j : ℕ) → j < n → (h : Growth) → standing h 0 ≡ upto step j (standing g 0) → HasRoom h (step j (standing h 0))
+  growth_turn j l h e = (turn step n good (standing g 0) (growth_ready g 0 (omega (arith, g.roots))) room j l (standing h 0) e).1
 
 -- the five cleared roots are ready
 pub cleared_ready : (a : List ℕ) → 5 * record_words ≤ length a → StateKept (mk a 0 5) (cleared a)
@@ -70,15 +85,27 @@ cleared_ready a h = record {
   long = length_zeroed 0 (5 * record_words) a (omega arith) h;
 }
 
--- room for all has room for the roots
-pub room_roots : (table a : List ℕ) (m : ℕ) → rule_count table ≤ 256 → Roomy (all_in table a) m → 5 * record_words ≤ m
-unfolding all_in rules_in cleared
-room_roots table a m h r =
-    omega (arith, (upto_good (λ i. rule_in (record_at table i) i) (rule_count table) (rules_good table h)).more (cleared a), r.room)
+pub roots_ready : (a words : List ℕ) → 5 * record_words ≤ length a → words ≡ zeroed 0 (5 * record_words) a → Ready (mk words 0 5)
+unfolding cleared
+roots_ready a words h e = rw e (cleared_ready a h).ready
 
-pub all_start : (table a b : List ℕ) → b ≡ zeroed 0 (5 * record_words) a → rule_count table ≤ 256 → Roomy (all_in table a) (length a)
-    → Ready (mk b 0 5) × Roomy (rules_in table (rule_count table) (mk b 0 5)) (length b)
-unfolding all_in cleared
-all_start table a b e h r =
-    let k = cleared_ready a (room_roots table a (length a) h r) in
-    rw e (k.ready, rw k.long r)
+-- ---- all rules of a table
+
+module _ (table : List ℕ) (accepted : Accepted table) (a : List ℕ) (room : Roomy (all_in table a) (length a)) where
+  -- room for all has room for the roots
+  pub room_roots : 5 * record_words ≤ length a
+  unfolding all_in rules_in cleared
+  room_roots = omega (arith, (upto_good (λ i. rule_in (record_at table i) i) (rule_count table) (rules_good table accepted)).more (cleared a), room.room)
+
+  -- and where the roots are cleared, there is still room for all
+  pub all_start : (g : Growth) → standing g 0 ≡ cleared a → HasRoom g (rules_in table (rule_count table) (standing g 0))
+  unfolding all_in
+  all_start g rooted =
+      let same : length g.words.now ≡ length a = ap (λ (s : State). length s.area) rooted ∙ (cleared_ready a room_roots).long in
+      rw same (rw rooted room)
+
+-- that is how an area grows, whose words in the end are those of the growing one
+pub all_grown : (table a : List ℕ) (g h : Growth) → standing g 0 ≡ cleared a → standing h 0 ≡ rules_in table (rule_count table) (standing g 0)
+    → (words : List ℕ) → words ≡ h.words.now → mk words 0 h.next ≡ all_in table a
+unfolding all_in
+all_grown table a g h rooted grown words same = ap (λ (l : List ℕ). mk l 0 h.next) same ∙ grown ∙ ap (rules_in table (rule_count table)) rooted

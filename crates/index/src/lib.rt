@@ -1,5 +1,4 @@
-// The index over a rule table: how many words it needs, and writing them. Both ask for an accepted
-// table; `desk` refuses any other before it calls.
+// The index over an accepted rule table: how many words it needs, and writing them.
 #![tactic(auto)]
 
 mod sizing;

@@ -1,25 +1,24 @@
 -- What lookup says where it names a place, over any area at all: a match with the action of the table's record there, or 5 where that record
 -- has none. The place depends on the area, the header and the table's length alone.
 -- Assumes nothing.
+use Rattle.rules.specs.Refusal.{told}
+use Rattle.rules.specs.declared.Refusal.{Refusal}
+use Rattle.lookup.specs.declared.Answer.{Answer}
 use mathlib.Core.Path.{◌≡◌, refl, sym, ap, subst, ◌∙◌}
 use mathlib.Core.Logic.{◌⊎◌, inl, inr, ⊎_elim}
 use mathlib.Core.Bool.{Bool, true, false, not, cond}
 use mathlib.Core.List.{List, [], ◌∷◌, head-eq_of_cons-eq}
-use mathlib.Core.Option.{Option, none, some}
+use Rattle.std.specs.Prelude.{Option, None, Some, Result, Ok}
 use Prim.Native.Nat.{ℕ, ◌/◌, ◌%◌, ◌<◌}
 use native.Mathlib.Omega.{arith}
 use lib.Dec.{eqb, ltb}
 use lib.ListN.{length, get_or}
 use borrow.Author.Tests.{ltb-true, lt-ltb}
 use Rattle.rules.specs.declared.Action.{Action}
-use Rattle.rules.specs.declared.Decoded.{Decoded}
-use Rattle.rules.specs.declared.Decoded.TheVariants.{Known, Unknown}
 use Rattle.rules.specs.Action.{action_in}
 use Rattle.rules.specs.Table.{record_size, most_rules, rule_count, record_at}
 use Rattle.rules.specs.Header.{header_size, header_values}
 use Rattle.area.specs.Shape.{desk_shape}
-use Rattle.lookup.specs.declared.Looked.{Looked}
-use Rattle.lookup.specs.declared.Looked.TheVariants.{Found}
 use Rattle.lookup.specs.declared.Outcome.TheVariants.{Match}
 use Rattle.lookup.specs.Said.{match_said, no_match_said}
 use Rattle.lookup.specs.Scan as scan
@@ -56,31 +55,31 @@ module _ (table area header : List ℕ) where
     pub passed : Passed
     pub place : ℕ
     pub falses : ℕ
-    pub found : steps ≡ some (scan.found (some place) falses)
+    pub found : steps ≡ Some (scan.found (Some place) falses)
     pub inside : ltb place (rule_count table) ≡ true
     pub is : match_said falses place (action_in (record_at table place)) ≡ says
 
   module _ (says : List ℕ) (names : Names says) where
-    found_resolved : Passed → (falses k : ℕ) → steps ≡ some (scan.found (some k) falses) → (b : Bool) → ltb k (rule_count table) ≡ b
+    found_resolved : Passed → (falses k : ℕ) → steps ≡ Some (scan.found (Some k) falses) → (b : Bool) → ltb k (rule_count table) ≡ b
         → cond b (match_said falses k (action_in (record_at table k))) (9 ∷ []) ≡ says → Resolved says
     found_resolved passed falses k t false inside e = absurd (other_names 9 (λ n. omega arith) (λ n. omega arith) e names)
     found_resolved passed falses k t true inside e = record { passed = passed; place = k; falses = falses; found = t; inside = inside; is = e }
 
     steps_resolved : Passed → (o : Option scan.Found) → steps ≡ o → steps_said table o ≡ says → Resolved says
     unfolding steps_said found_said
-    steps_resolved passed none t e = absurd (other_names 9 (λ n. omega arith) (λ n. omega arith) e names)
-    steps_resolved passed (some x) t e = go x.place refl e
+    steps_resolved passed None t e = absurd (other_names 9 (λ n. omega arith) (λ n. omega arith) e names)
+    steps_resolved passed (Some x) t e = go x.place refl e
       where
         go : (o : Option ℕ) → x.place ≡ o
             → (elim o as (λ _. List ℕ) [
-              | none ↦ no_match_said x.falses
-              | some p ↦ cond (ltb p (rule_count table)) (match_said x.falses p (action_in (record_at table p))) (9 ∷ [])
+              | None ↦ no_match_said x.falses
+              | Some p ↦ cond (ltb p (rule_count table)) (match_said x.falses p (action_in (record_at table p))) (9 ∷ [])
             ]) ≡ says → Resolved says
-        go none z q =
+        go None z q =
             unfold no_match_said in
             absurd (⊎_elim (λ n. omega (arith, ap (λ (l : List ℕ). get_or l 0 0) q, n)) (λ n. omega (arith, ap (λ (l : List ℕ). get_or l 2 0) q, n.1)) names)
-        go (some k) z q =
-            found_resolved passed x.falses k (t ∙ ap (λ (o : Option ℕ). some (scan.found o x.falses)) z) (ltb k (rule_count table)) refl q
+        go (Some k) z q =
+            found_resolved passed x.falses k (t ∙ ap (λ (o : Option ℕ). Some (scan.found o x.falses)) z) (ltb k (rule_count table)) refl q
 
     resolved : look_said table area header ≡ says → Resolved says
     unfolding look_said
@@ -98,61 +97,61 @@ module _ (table area header : List ℕ) where
 
 -- ---- a match
 
-abbrev matched : ℕ → ℕ → Action → Looked
-matched falses place action = Found (record { falses = falses; outcome = Match place action })
+abbrev matched : ℕ → ℕ → Action → Result Answer Refusal
+matched falses place action = Ok (record { falses = falses; outcome = Match place action })
 
 -- its place, and the action of the record there
 record Carried (table area header : List ℕ) (place : ℕ) (action : Action) : Type 0 where
   falses : ℕ
   passed : Passed table area header
-  found : steps table area header ≡ some (scan.found (some place) falses)
+  found : steps table area header ≡ Some (scan.found (Some place) falses)
   inside : place < rule_count table
-  known : action_in (record_at table place) ≡ Known action
+  known : action_in (record_at table place) ≡ Some action
 
 carried : (table area header : List ℕ) (falses place : ℕ) (action : Action) → look_said table area header ≡ looked_said (matched falses place action)
     → Carried table area header place action
-unfolding looked_said outcome_said
+unfolding told outcome_said
 carried table area header falses place action e = go (resolved table area header (looked_said (matched falses place action)) (inr (refl, refl)) e)
   where
     go : Resolved table area header (looked_said (matched falses place action)) → Carried table area header place action
     go r = by (action_in (record_at table r.place)) refl r.is
       where
-        by : (d : Decoded) → action_in (record_at table r.place) ≡ d → match_said r.falses r.place d ≡ looked_said (matched falses place action)
+        by : (d : Option Action) → action_in (record_at table r.place) ≡ d → match_said r.falses r.place d ≡ looked_said (matched falses place action)
             → Carried table area header place action
-        by Unknown q s = unfold match_said in absurd (omega (arith, head-eq_of_cons-eq s))
-        by (Known a) q s =
+        by None q s = unfold match_said in absurd (omega (arith, head-eq_of_cons-eq s))
+        by (Some a) q s =
             let same = match_one (looked_one (matched r.falses r.place a) (matched falses place action) (unfold match_said in s)) in
             record {
               falses = r.falses;
               passed = r.passed;
-              found = r.found ∙ ap (λ (k : ℕ). some (scan.found (some k) r.falses)) same.0;
+              found = r.found ∙ ap (λ (k : ℕ). Some (scan.found (Some k) r.falses)) same.0;
               inside = omega (arith, same.0, ltb-true r.place (rule_count table) r.inside);
-              known = ap (λ (k : ℕ). action_in (record_at table k)) (sym same.0) ∙ q ∙ ap Known same.1;
+              known = ap (λ (k : ℕ). action_in (record_at table k)) (sym same.0) ∙ q ∙ ap Some same.1;
             }
 
 pub look_carries : (table area header : List ℕ) (falses place : ℕ) (action : Action) → look_said table area header ≡ looked_said (matched falses place action)
-    → (place < rule_count table) × (action_in (record_at table place) ≡ Known action)
+    → (place < rule_count table) × (action_in (record_at table place) ≡ Some action)
 look_carries table area header falses place action e = let c = carried table area header falses place action e in (c.inside, c.known)
 
 -- ---- 5
 
 pub look_unknown : (table area header : List ℕ) (place : ℕ) → look_said table area header ≡ 5 ∷ place ∷ []
-    → (place < rule_count table) × (action_in (record_at table place) ≡ Unknown)
+    → (place < rule_count table) × (action_in (record_at table place) ≡ None)
 look_unknown table area header place e = go (resolved table area header (5 ∷ place ∷ []) (inl refl) e)
   where
-    go : Resolved table area header (5 ∷ place ∷ []) → (place < rule_count table) × (action_in (record_at table place) ≡ Unknown)
+    go : Resolved table area header (5 ∷ place ∷ []) → (place < rule_count table) × (action_in (record_at table place) ≡ None)
     go r = by (action_in (record_at table r.place)) refl r.is
       where
-        by : (d : Decoded) → action_in (record_at table r.place) ≡ d → match_said r.falses r.place d ≡ 5 ∷ place ∷ []
-            → (place < rule_count table) × (action_in (record_at table place) ≡ Unknown)
-        by (Known a) q s = unfold match_said in absurd (omega (arith, head-eq_of_cons-eq s))
-        by Unknown q s =
+        by : (d : Option Action) → action_in (record_at table r.place) ≡ d → match_said r.falses r.place d ≡ 5 ∷ place ∷ []
+            → (place < rule_count table) × (action_in (record_at table place) ≡ None)
+        by (Some a) q s = unfold match_said in absurd (omega (arith, head-eq_of_cons-eq s))
+        by None q s =
             let same : r.place ≡ place = unfold match_said in ap (λ (l : List ℕ). get_or l 1 0) s in
             (omega (arith, same, ltb-true r.place (rule_count table) r.inside), ap (λ (k : ℕ). action_in (record_at table k)) (sym same) ∙ q)
 
 -- a table as long as another gets the other's place
 pub unknown_there : (table other area header : List ℕ) (falses place : ℕ) (action : Action) → length other ≡ length table
-    → look_said other area header ≡ looked_said (matched falses place action) → action_in (record_at table place) ≡ Unknown
+    → look_said other area header ≡ looked_said (matched falses place action) → action_in (record_at table place) ≡ None
     → look_said table area header ≡ 5 ∷ place ∷ []
 unfolding steps_said
 unknown_there table other area header falses place action size e none_there =

@@ -3,7 +3,7 @@
 use mathlib.Core.Path.{◌≡◌, sym, ap, ◌∙◌}
 use mathlib.Core.Bool.{Bool, true, false}
 use mathlib.Core.List.{List, [], ◌∷◌, map}
-use mathlib.Core.Option.{none, some}
+use Rattle.std.specs.Prelude.{None, Some}
 use Prim.Native.Nat.{ℕ, suc, ◌+◌, ◌-◌, ◌*◌, ◌≤◌, ◌<◌}
 use native.Mathlib.Nat.{add-zero, zero-add}
 use native.Mathlib.Numerals.{add-one}
@@ -41,16 +41,16 @@ module _ (tried : ℕ → Bool) (word : ℕ → ℕ) where
         (turn ∙ scan_false 32 tried word (blocks - (b + 1)) b e (eq-eqb (word b) 0 z) ∙ ap (λ (i : ℕ). more (scan 32 tried word (blocks - (b + 1)) i)) (sym (add-one b)))
         ∙ ap (found s.place) f
 
-    pub block_wins : tried b ≡ true → (word b ≡ 0 → ⊥) → counted n (scan 32 tried word (blocks - b) b) ≡ found (some (b * 32 + count_trailing_zeros 32 (word b))) n
+    pub block_wins : tried b ≡ true → (word b ≡ 0 → ⊥) → counted n (scan 32 tried word (blocks - b) b) ≡ found (Some (b * 32 + count_trailing_zeros 32 (word b))) n
     block_wins e z =
         ap (counted n) (turn ∙ scan_wins 32 tried word (blocks - (b + 1)) b e (ne_eqb (word b) 0 z))
-        ∙ ap (found (some (b * 32 + count_trailing_zeros 32 (word b)))) (add-zero n)
+        ∙ ap (found (Some (b * 32 + count_trailing_zeros 32 (word b)))) (add-zero n)
 
-  pub blocks_done : (b n : ℕ) → blocks ≤ b → counted n (scan 32 tried word (blocks - b) b) ≡ found none n
+  pub blocks_done : (b n : ℕ) → blocks ≤ b → counted n (scan 32 tried word (blocks - b) b) ≡ found None n
   unfolding scan
   blocks_done b n h =
       let e : blocks - b ≡ 0 = omega arith in
-      ap (λ (k : ℕ). counted n (scan 32 tried word k b)) e ∙ ap (found none) (add-zero n)
+      ap (λ (k : ℕ). counted n (scan 32 tried word k b)) e ∙ ap (found None) (add-zero n)
 
 -- the word of block b in each of five vectors
 pub column_five : (vectors : List (List ℕ)) (b : ℕ) → length vectors ≡ 5

@@ -4,7 +4,7 @@
 use mathlib.Core.Path.{◌≡◌, refl, sym, ap, ap₂, ◌∙◌, fun_ext}
 use mathlib.Core.Bool.{Bool, false, not, ◌&&◌}
 use mathlib.Core.List.{List, [], ◌∷◌, map}
-use mathlib.Core.Option.{Option, none, some}
+use Rattle.std.specs.Prelude.{Option, None, Some}
 use Prim.Native.Nat.{ℕ, ◌*◌, ◌/◌, ◌%◌, ◌≤◌, ◌<◌}
 use native.Mathlib.Nat.{div-lt_iff_lt-mul}
 use native.Mathlib.Omega.{arith}
@@ -16,7 +16,6 @@ use Rattle.bits.proofs.TestLaws.{Lowest, Told, count_le, lowest_agree}
 use Rattle.bits.proofs.ListLaws.{all_map}
 use Rattle.bits.proofs.EachLaws.{get_d_map, all_agree}
 use Rattle.rules.specs.declared.Action.{Action}
-use Rattle.rules.specs.declared.Decoded.TheVariants.{Known}
 use Rattle.rules.specs.Rule.{Rule, rule_of}
 use Rattle.rules.specs.Table.{record_size, most_rules, rule_count, record_at, rules_of, Accepted}
 use Rattle.rules.specs.Header.{header_size, header_values}
@@ -58,8 +57,8 @@ unfolding blocks_before
 before_le size blocks rules values pos fits = go (first_match rules values) (match_told rules values)
   where
     go : (o : Option ℕ) → Told (λ place. matches values (rule_at rules place)) (length rules) o → blocks_before size blocks o ≤ blocks
-    go none t = omega arith
-    go (some place) t =
+    go None t = omega arith
+    go (Some place) t =
         let h : place / size < blocks = (div-lt_iff_lt-mul pos).1 (omega (arith, t.below)) in
         omega arith
 
@@ -108,13 +107,13 @@ module _ (table : List ℕ) (b : Bytes table) (sound : Accepted table) (header :
       ∙ ap (λ (t : ℕ → Bool). found (first_match rules values) (count t (blocks_before 32 blocks (first_match rules values)))) (fun_ext block_same)
 
   module _ (area : List ℕ) (held : take (need desk_shape rules) area ≡ image desk_shape rules) where
-    steps_found : lookup_steps desk_shape area ks ≡ some (found (first_match rules values) (false_blocks 32 blocks rules values))
+    steps_found : lookup_steps desk_shape area ks ≡ Some (found (first_match rules values) (false_blocks 32 blocks rules values))
     unfolding up_from
     steps_found =
         ap (lookup_steps desk_shape area) (keys_in header)
         ∙ steps_image desk_shape desk_lawful rules (need desk_shape rules) area held (key_in values 0) (map (key_in values) (up_from 1 4)) (keys_within values)
         (omega (arith, rules_size table, (accepted_sound table sound).few))
-        ∙ ap some (ap (keys_found desk_shape rules) (sym (keys_in header)) ∙ found_same)
+        ∙ ap Some (ap (keys_found desk_shape rules) (sym (keys_in header)) ∙ found_same)
 
     enough : least_words ≤ length area
     enough = omega (arith, (keys_root 5 rules 4 (omega arith)).inside, (image_indexed desk_shape desk_lawful.sized rules (need desk_shape rules) area held).room)
@@ -123,8 +122,8 @@ module _ (table : List ℕ) (b : Bytes table) (sound : Accepted table) (header :
     said_same : (o : Option ℕ) → Told (λ place. matches values (rule_at rules place)) (length rules) o → (falses : ℕ)
         → found_said table (found o falses) ≡ winner_said rules falses o
     unfolding winner_said no_match_said rule_of
-    said_same none t falses = said_none table falses
-    said_same (some place) t falses =
+    said_same None t falses = said_none table falses
+    said_same (Some place) t falses =
         let inside : place < rule_count table = omega (arith, t.below, rules_size table) in
         said_match table falses place (lt-ltb place (rule_count table) inside)
         ∙ ap (λ (r : Rule). match_said falses place r.action) (sym (rules_at table place inside))
@@ -142,7 +141,7 @@ module _ (table : List ℕ) (b : Bytes table) (sound : Accepted table) (header :
 -- ---- the answer is done
 
 -- the action of an accepted table's rule is known
-rule_known : (table : List ℕ) → Accepted table → (place : ℕ) → place < rule_count table → (a : Action) × ((rule_at (rules_of table) place).action ≡ Known a)
+rule_known : (table : List ℕ) → Accepted table → (place : ℕ) → place < rule_count table → (a : Action) × ((rule_at (rules_of table) place).action ≡ Some a)
 unfolding rule_of
 rule_known table sound place h = rw (rules_at table place h) (sound_known (record_at table place) ((accepted_sound table sound).faultless place h))
 
@@ -152,13 +151,13 @@ module _ (table : List ℕ) (sound : Accepted table) (header : List ℕ) where
   falses = false_blocks 32 blocks (rules_of table) (header_values header)
 
   -- no rule matches
-  pub answer_none : first_match (rules_of table) (header_values header) ≡ none → answer_said table header ≡ 0 ∷ falses ∷ 0 ∷ []
+  pub answer_none : first_match (rules_of table) (header_values header) ≡ None → answer_said table header ≡ 0 ∷ falses ∷ 0 ∷ []
   unfolding answer_said rules_answer winner_said no_match_said
   answer_none e = ap (winner_said (rules_of table) falses) e
 
   -- the rule at a place wins, and its action is known
-  pub answer_match : (place : ℕ) → first_match (rules_of table) (header_values header) ≡ some place
-      → (a : Action) × ((rule_at (rules_of table) place).action ≡ Known a) × (answer_said table header ≡ 0 ∷ falses ∷ 1 ∷ place ∷ action_values a)
+  pub answer_match : (place : ℕ) → first_match (rules_of table) (header_values header) ≡ Some place
+      → (a : Action) × ((rule_at (rules_of table) place).action ≡ Some a) × (answer_said table header ≡ 0 ∷ falses ∷ 1 ∷ place ∷ action_values a)
   unfolding answer_said rules_answer winner_said match_said
   answer_match place e =
       let low : Lowest (λ place. matches (header_values header) (rule_at (rules_of table) place)) (length (rules_of table)) place =

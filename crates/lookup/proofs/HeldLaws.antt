@@ -4,7 +4,7 @@
 use mathlib.Core.Path.{◌≡◌, refl, sym, ap, ap₂, ◌∙◌, fun_ext}
 use mathlib.Core.Bool.{Bool, true, not, ◌&&◌}
 use mathlib.Core.List.{List, [], ◌∷◌, map, map-map}
-use mathlib.Core.Option.{Option, some}
+use Rattle.std.specs.Prelude.{Option, Some}
 use Prim.Native.Nat.{ℕ, zero, suc, ◌+◌, ◌*◌, ◌≤◌, ◌<◌}
 use native.Mathlib.Omega.{arith}
 use lib.Bits.{bit_and}
@@ -158,7 +158,7 @@ module _ (S : Shape) (lawful : Lawful S) (rules : List Rule) where
     -- the walks of some keys reached records that hold the keys' vectors and what stands over them
     record Reached (ks : List Key) (o : Option (List ℕ)) : Type 0 where
       rows : List ℕ
-      there : o ≡ some rows
+      there : o ≡ Some rows
       overs : map (summaries_at S area) rows ≡ map (λ k. S.summary (vector S rules k)) ks
       vectors : map (vector_at S area) rows ≡ map (vector S rules) ks
 
@@ -178,19 +178,19 @@ module _ (S : Shape) (lawful : Lawful S) (rules : List Rule) where
 
     -- the steps find what the rules fix
     pub steps_held : (k : Key) (ks : List Key) → KeysWithin S.fields (k ∷ ks) → length rules ≤ S.blocks * S.size
-        → lookup_steps S area (k ∷ ks) ≡ some (keys_found S rules (k ∷ ks))
+        → lookup_steps S area (k ∷ ks) ≡ Some (keys_found S rules (k ∷ ks))
     unfolding lookup_steps
     steps_held k ks w fits =
         let e = ends_reached (k ∷ ks) w in
-        rw (e.there, lookup_steps) (ap some (ap₂ (resolve S) e.overs e.vectors ∙ resolve_held k ks fits))
+        rw (e.there, lookup_steps) (ap Some (ap₂ (resolve S) e.overs e.vectors ∙ resolve_held k ks fits))
 
   -- over an area that starts with the image, whoever wrote it
   pub steps_image : (n : ℕ) (area : List ℕ) → take n area ≡ image S rules → (k : Key) (ks : List Key) → KeysWithin S.fields (k ∷ ks)
-      → length rules ≤ S.blocks * S.size → lookup_steps S area (k ∷ ks) ≡ some (keys_found S rules (k ∷ ks))
+      → length rules ≤ S.blocks * S.size → lookup_steps S area (k ∷ ks) ≡ Some (keys_found S rules (k ∷ ks))
   steps_image n area e = steps_held area (image_indexed S lawful.sized rules n area e)
 
 -- so with a second level of aggregation over 128 words: 4096 rules
 pub wide_steps : (rules : List Rule) → length rules ≤ 4096 → (n : ℕ) (area : List ℕ) → take n area ≡ image (two_level 5 32 4) rules
-    → (k : Key) (ks : List Key) → KeysWithin 5 (k ∷ ks) → lookup_steps (two_level 5 32 4) area (k ∷ ks) ≡ some (keys_found (two_level 5 32 4) rules (k ∷ ks))
+    → (k : Key) (ks : List Key) → KeysWithin 5 (k ∷ ks) → lookup_steps (two_level 5 32 4) area (k ∷ ks) ≡ Some (keys_found (two_level 5 32 4) rules (k ∷ ks))
 wide_steps rules few n area e k ks w =
     steps_image (two_level 5 32 4) (two_lawful 5 32 4 (omega arith) (omega arith)) rules n area e k ks w few

@@ -3,12 +3,11 @@
 use mathlib.Core.Path.{◌≡◌, refl}
 use mathlib.Core.Bool.{true, false}
 use mathlib.Core.List.{List, [], ◌∷◌}
-use mathlib.Core.Option.{none, some}
+use Rattle.std.specs.Prelude.{None, Some}
 use Prim.Native.Nat.{ℕ, ◌%◌}
 use lib.Dec.{eqb, ltb}
 use lib.ListN.{length}
 use Rattle.rules.specs.declared.Action.{Action}
-use Rattle.rules.specs.declared.Decoded.TheVariants.{Known, Unknown}
 use Rattle.rules.specs.Action.{action_in}
 use Rattle.rules.specs.Table.{record_size, most_rules, rule_count, record_at}
 use Rattle.rules.specs.Header.{header_size, header_values}
@@ -20,25 +19,25 @@ use Rattle.lookup.specs.Look.{header_keys, widths, lookup_steps, found_said, ste
 -- ---- what was found
 
 module _ (table : List ℕ) (falses : ℕ) where
-  pub said_none : found_said table (found none falses) ≡ 0 ∷ falses ∷ 0 ∷ []
+  pub said_none : found_said table (found None falses) ≡ 0 ∷ falses ∷ 0 ∷ []
   unfolding found_said no_match_said
   said_none = refl
 
   module _ (place : ℕ) where
-    pub said_far : ltb place (rule_count table) ≡ false → found_said table (found (some place) falses) ≡ 9 ∷ []
+    pub said_far : ltb place (rule_count table) ≡ false → found_said table (found (Some place) falses) ≡ 9 ∷ []
     unfolding found_said
     said_far e = rw e
 
-    pub said_match : ltb place (rule_count table) ≡ true → found_said table (found (some place) falses) ≡ match_said falses place (action_in (record_at table place))
+    pub said_match : ltb place (rule_count table) ≡ true → found_said table (found (Some place) falses) ≡ match_said falses place (action_in (record_at table place))
     unfolding found_said
     said_match e = rw e
 
-    pub said_no_action : ltb place (rule_count table) ≡ true → action_in (record_at table place) ≡ Unknown → found_said table (found (some place) falses) ≡ 5 ∷ place ∷ []
+    pub said_no_action : ltb place (rule_count table) ≡ true → action_in (record_at table place) ≡ None → found_said table (found (Some place) falses) ≡ 5 ∷ place ∷ []
     unfolding found_said match_said
     said_no_action e f = rw (e, f)
 
-    pub said_known : (a : Action) → ltb place (rule_count table) ≡ true → action_in (record_at table place) ≡ Known a
-        → found_said table (found (some place) falses) ≡ 0 ∷ falses ∷ 1 ∷ place ∷ action_values a
+    pub said_known : (a : Action) → ltb place (rule_count table) ≡ true → action_in (record_at table place) ≡ Some a
+        → found_said table (found (Some place) falses) ≡ 0 ∷ falses ∷ 1 ∷ place ∷ action_values a
     unfolding found_said match_said
     said_known a e f = rw (e, f)
 

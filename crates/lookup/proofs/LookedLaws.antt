@@ -1,5 +1,8 @@
 -- What is said fixes the answer: no two answers of a lookup say the same. A match is one place with one action, and never no match.
 -- Assumes nothing.
+use Rattle.rules.specs.declared.Refusal.{Refusal}
+use Rattle.lookup.specs.declared.Answer.{Answer}
+use Rattle.std.specs.Prelude.{Result, Ok, Err}
 use mathlib.Core.Path.{◌≡◌, refl, ap}
 use mathlib.Core.List.{List, [], ◌∷◌}
 use Prim.Native.Nat.{ℕ, zero, suc}
@@ -7,13 +10,12 @@ use native.Mathlib.Omega.{arith}
 use lib.ListN.{get_or, drop}
 use Rattle.rules.specs.declared.Action.{Action}
 use Rattle.rules.specs.declared.Action.TheVariants.{Hold, Deliver}
-use Rattle.rules.proofs.SaidLaws.{answer_from, answer_refused, one_answer}
+use Rattle.rules.proofs.SaidLaws.{told_one}
+use Rattle.rules.specs.Refusal.{told}
 use Rattle.lookup.specs.declared.Outcome.{Outcome}
 use Rattle.lookup.specs.declared.Outcome.TheVariants.{NoMatch, Match}
-use Rattle.lookup.specs.declared.Looked.{Looked}
-use Rattle.lookup.specs.declared.Looked.TheVariants.{Found, Refused}
 use Rattle.lookup.specs.Said.{action_values}
-use Rattle.lookup.specs.InCode.{outcome_said, looked_said}
+use Rattle.lookup.specs.InCode.{outcome_said, answer_values, looked_said}
 
 -- ---- an answer from its values
 
@@ -37,28 +39,27 @@ unfolding outcome_from outcome_said
 outcome_back NoMatch = refl
 outcome_back (Match place action) = ap (Match place) (action_back action)
 
-done_from : List ℕ → Looked
-done_from vs = Found (record { falses = get_or vs 0 0; outcome = outcome_from (drop 1 vs) })
+answer_of_values : List ℕ → Answer
+answer_of_values vs = record { falses = get_or vs 0 0; outcome = outcome_from (drop 1 vs) }
 
-looked_back : (r : Looked) → answer_from done_from Refused (looked_said r) ≡ r
-unfolding done_from looked_said
-looked_back (Found a) = ap (λ (o : Outcome). Found (record { falses = a.falses; outcome = o })) (outcome_back a.outcome)
-looked_back (Refused r) = answer_refused done_from Refused r
+answer_back : (a : Answer) → answer_of_values (answer_values a) ≡ a
+unfolding answer_of_values
+answer_back a = ap (λ (o : Outcome). record { falses = a.falses; outcome = o }) (outcome_back a.outcome)
 
-pub looked_one : (a b : Looked) → looked_said a ≡ looked_said b → a ≡ b
-looked_one = one_answer looked_said (answer_from done_from Refused) looked_back
+pub looked_one : (a b : Result Answer Refusal) → looked_said a ≡ looked_said b → a ≡ b
+looked_one = told_one answer_values answer_of_values answer_back
 
 -- ---- matches
 
-abbrev matched : ℕ → ℕ → Action → Looked
-matched falses place action = Found (record { falses = falses; outcome = Match place action })
+abbrev matched : ℕ → ℕ → Action → Result Answer Refusal
+matched falses place action = Ok (record { falses = falses; outcome = Match place action })
 
 pub match_one : {f g p q : ℕ} {a b : Action} → matched f p a ≡ matched g q b → (p ≡ q) × (a ≡ b)
 match_one {f} {g} {p} {q} {a} {b} e = (ap (λ (o : Outcome). place_of o) same, ap (λ (o : Outcome). action_of o) same)
   where
-    outcome_of : Looked → Outcome
-    outcome_of (Found x) = x.outcome
-    outcome_of (Refused r) = NoMatch
+    outcome_of : Result Answer Refusal → Outcome
+    outcome_of (Ok x) = x.outcome
+    outcome_of (Err r) = NoMatch
 
     place_of : Outcome → ℕ
     place_of NoMatch = p
@@ -71,6 +72,6 @@ match_one {f} {g} {p} {q} {a} {b} e = (ap (λ (o : Outcome). place_of o) same, a
     same : Match p a ≡ Match q b
     same = ap outcome_of e
 
-pub match_some : {f g p : ℕ} {a : Action} → matched f p a ≡ Found (record { falses = g; outcome = NoMatch }) → ⊥
-unfolding looked_said outcome_said
-match_some e = omega (arith, ap (λ (r : Looked). get_or (looked_said r) 2 0) e)
+pub match_some : {f g p : ℕ} {a : Action} → matched f p a ≡ Ok (record { falses = g; outcome = NoMatch }) → ⊥
+unfolding told outcome_said
+match_some e = omega (arith, ap (λ (r : Result Answer Refusal). get_or (looked_said r) 2 0) e)

@@ -2,12 +2,13 @@
 -- Assumes nothing.
 use mathlib.Core.Path.{◌≡◌, ap, ◌∙◌}
 use mathlib.Core.List.{List, map, map-map}
-use mathlib.Core.Option.{none, some}
-use Prim.Native.Nat.{ℕ, ◌+◌, ◌*◌, ◌/◌, ◌<◌}
+use Rattle.std.specs.Prelude.{None, Some}
+use Prim.Native.Nat.{ℕ, ◌+◌, ◌*◌, ◌<◌}
 use native.Mathlib.Nat.{mul_comm}
 use native.Mathlib.Omega.{arith}
-use lib.ListN.{length, get_or, take, drop, length-drop}
-use lib.Seq.{get_or-take, get_or-drop, length-take-le}
+use lib.ListN.{get_or, take, drop}
+use lib.Seq.{get_or-take, get_or-drop, drop-drop}
+use Rattle.std.proofs.lemmas.List.{drop-take}
 use Rattle.bits.specs.Word.{bit, and_all}
 use Rattle.bits.proofs.ListLaws.{map_ext}
 use Rattle.area.specs.Shape.{blocks, desk_shape, record_words, aggregate_start, vector_start}
@@ -32,31 +33,22 @@ aggregate_read area n =
     get_or-take 1 (drop aggregate_start (row_at desk_shape area n)) 0 0 (omega arith) ∙ get_or-drop aggregate_start (row_at desk_shape area n) 0 0 ∙ row_word area n aggregate_start (omega arith)
 
 -- the vector
-pub vector_length : (area : List ℕ) (n : ℕ) → n < length area / record_words → length (vector_at desk_shape area n) ≡ blocks
+pub vector_part : (area : List ℕ) (n : ℕ) → vector_at desk_shape area n ≡ take blocks (drop (record_words * n + vector_start) area)
 unfolding vector_at row_at
-vector_length area n h =
-    omega (
-      arith,
-      length-drop vector_start (take record_words (drop (n * record_words) area)),
-      length-take-le record_words (drop (n * record_words) area) (omega (arith, length-drop (n * record_words) area)),
-    )
-
-pub vector_read : (area : List ℕ) (n b : ℕ) → b < blocks → get_or (vector_at desk_shape area n) b 0 ≡ get_or area (record_words * n + vector_start + b) 0
-unfolding vector_at
-vector_read area n b h =
-    let e : record_words * n + (vector_start + b) ≡ record_words * n + vector_start + b = omega arith in
-    get_or-drop vector_start (row_at desk_shape area n) b 0 ∙ row_word area n (vector_start + b) (omega arith) ∙ ap (λ (k : ℕ). get_or area k 0) e
+vector_part area n =
+    drop-take vector_start blocks (drop (n * record_words) area)
+    ∙ ap (take blocks) (drop-drop vector_start (n * record_words) area ∙ ap (λ (k : ℕ). drop k area) (omega arith))
 
 -- ---- what the steps find
 
 module _ (area : List ℕ) (ks : List Key) where
-  pub steps_none : ends desk_shape area ks ≡ none → lookup_steps desk_shape area ks ≡ none
+  pub steps_none : ends desk_shape area ks ≡ None → lookup_steps desk_shape area ks ≡ None
   unfolding lookup_steps
   steps_none e = rw (e, lookup_steps)
 
   -- from the words that the records hold
-  pub steps_some : (ns : List ℕ) → ends desk_shape area ks ≡ some ns
-      → lookup_steps desk_shape area ks ≡ some (scan 32 (bit (and_all 32 (map (aggregate_at area) ns))) (meet desk_shape (map (vector_at desk_shape area) ns)) blocks 0)
+  pub steps_some : (ns : List ℕ) → ends desk_shape area ks ≡ Some ns
+      → lookup_steps desk_shape area ks ≡ Some (scan 32 (bit (and_all 32 (map (aggregate_at area) ns))) (meet desk_shape (map (vector_at desk_shape area) ns)) blocks 0)
   unfolding lookup_steps resolve
   steps_some ns e =
       let words : map (λ s. get_or s 0 0) (map (summaries_at desk_shape area) ns) ≡ map (aggregate_at area) ns =
@@ -64,4 +56,4 @@ module _ (area : List ℕ) (ks : List Key) where
       ∙ map_ext (λ n. get_or (summaries_at desk_shape area n) 0 0) (aggregate_at area) (aggregate_read area) ns
       in
       rw (e, lookup_steps)
-      (ap (λ (l : List ℕ). some (scan 32 (bit (and_all 32 l)) (meet desk_shape (map (vector_at desk_shape area) ns)) blocks 0)) words)
+      (ap (λ (l : List ℕ). Some (scan 32 (bit (and_all 32 l)) (meet desk_shape (map (vector_at desk_shape area) ns)) blocks 0)) words)

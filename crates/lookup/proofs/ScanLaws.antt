@@ -4,7 +4,7 @@ use mathlib.Core.Path.{◌≡◌, refl, sym, ap, ap₂, ◌∙◌}
 use mathlib.Core.Logic.{⊎_elim}
 use mathlib.Core.Bool.{Bool, true, false, not, ◌&&◌}
 use mathlib.Core.List.{List, [], ◌∷◌}
-use mathlib.Core.Option.{Option, none, some}
+use Rattle.std.specs.Prelude.{Option, None, Some}
 use Prim.Native.Nat.{ℕ, zero, suc, ◌+◌, ◌-◌, ◌*◌, ◌/◌, ◌≤◌, ◌<◌}
 use native.Mathlib.Nat.{zero-mul, suc-mul, zero-add, add-zero, add-sub_of_le}
 use native.Mathlib.Omega.{arith}
@@ -36,7 +36,7 @@ module _ (size : ℕ) (tried : ℕ → Bool) (word : ℕ → ℕ) (k b : ℕ) wh
   scan_false e z = rw (e, scan) (rw z)
 
   -- the first with a nonzero intersection gives the place
-  pub scan_wins : tried b ≡ true → eqb (word b) 0 ≡ false → scan size tried word (suc k) b ≡ found (some (b * size + count_trailing_zeros size (word b))) 0
+  pub scan_wins : tried b ≡ true → eqb (word b) 0 ≡ false → scan size tried word (suc k) b ≡ found (Some (b * size + count_trailing_zeros size (word b))) 0
   unfolding scan
   scan_wins e z = rw (e, scan) (rw z)
 
@@ -126,10 +126,10 @@ module _ (size : ℕ) (pos : 0 < size) (m : List Bool) (blocks : ℕ) (fits : le
   unfolding blocks_before
   win k b h before e =
       let t : ℕ = count_trailing_zeros size (word_of (chunk size m b)) in
-      let is : winner m ≡ some (b * size + t) = lowest_some (passes m) (length m) (b * size + t) (lowest_here size m b before e) in
+      let is : winner m ≡ Some (b * size + t) = lowest_some (passes m) (length m) (b * size + t) (lowest_here size m b before e) in
       let block : (b * size + t) / size ≡ b = digits_div b (trailing_small size m b before e) in
       rw (scan_wins size tried word k b (right b h ∙ some-opens b e) (not-true (eqb (word b) 0) (zero_word b h ∙ e))) record {
-        place = ap (λ (w : ℕ). some (b * size + count_trailing_zeros size w)) (words b h) ∙ sym is;
+        place = ap (λ (w : ℕ). Some (b * size + count_trailing_zeros size w)) (words b h) ∙ sym is;
         falses = zero-add (count (wrong size m opens) b) ∙ sym (ap (λ o. count (wrong size m opens) (blocks_before size blocks o)) is ∙ ap (count (wrong size m opens)) block);
       }
 
@@ -155,7 +155,7 @@ module _ (size : ℕ) (pos : 0 < size) (m : List Bool) (blocks : ℕ) (fits : le
   unfolding scan blocks_before
   scan_from zero b e before =
       let all : b ≡ blocks = omega arith in
-      let is : winner m ≡ none = lowest_none (passes m) (length m) (λ j h. before j (rw all (omega arith))) in
+      let is : winner m ≡ None = lowest_none (passes m) (length m) (λ j h. before j (rw all (omega arith))) in
       record {
         place = sym is;
         falses = zero-add (count (wrong size m opens) b) ∙ ap (count (wrong size m opens)) all ∙ sym (ap (λ o. count (wrong size m opens) (blocks_before size blocks o)) is);

@@ -4,7 +4,7 @@ use mathlib.Core.Path.{◌≡◌, refl, sym, ap, ap₂, subst, ◌∙◌}
 use mathlib.Core.Logic.{⊎_elim}
 use mathlib.Core.Bool.{Bool, true, false, ◌||◌}
 use mathlib.Core.List.{List, [], ◌∷◌, ◌++◌, map, append-nil, concat-ne-nil}
-use mathlib.Core.Option.{Option, none, some}
+use Rattle.std.specs.Prelude.{Option, None, Some}
 use Prim.Native.Nat.{ℕ, ◌/◌, ◌≤◌, ◌<◌}
 use native.Mathlib.Nat.{le-div_iff_mul-le}
 use native.Mathlib.Omega.{arith}
@@ -36,12 +36,12 @@ next S area n b = get_or (row_at S area n) (digit b) 0
 
 module _ (S : Shape) (area : List ℕ) (n : ℕ) (b : Bool) (bs : Path) where
   -- none is there
-  pub walk_stop : eqb (next S area n b) 0 ≡ true → walk_from S area n (b ∷ bs) ≡ some n
+  pub walk_stop : eqb (next S area n b) 0 ≡ true → walk_from S area n (b ∷ bs) ≡ Some n
   unfolding walk_from
   walk_stop e = rw (e, walk_from)
 
   -- it is damaged
-  pub walk_bad : eqb (next S area n b) 0 ≡ false → bad S area (next S area n b) ≡ true → walk_from S area n (b ∷ bs) ≡ none
+  pub walk_bad : eqb (next S area n b) 0 ≡ false → bad S area (next S area n b) ≡ true → walk_from S area n (b ∷ bs) ≡ None
   unfolding walk_from
   walk_bad e d = rw (e, walk_from) (rw d)
 
@@ -54,15 +54,15 @@ module _ (S : Shape) (area : List ℕ) (n : ℕ) (b : Bool) (bs : Path) where
 
 module _ (S : Shape) (area : List ℕ) (k : Key) (ks : List Key) where
   -- a walk that meets damage ends them all
-  pub ends_bad : walk S area k ≡ none → ends S area (k ∷ ks) ≡ none
+  pub ends_bad : walk S area k ≡ None → ends S area (k ∷ ks) ≡ None
   unfolding ends
   ends_bad e = rw (e, ends)
 
-  pub ends_worse : (n : ℕ) → walk S area k ≡ some n → ends S area ks ≡ none → ends S area (k ∷ ks) ≡ none
+  pub ends_worse : (n : ℕ) → walk S area k ≡ Some n → ends S area ks ≡ None → ends S area (k ∷ ks) ≡ None
   unfolding ends
   ends_worse n e f = rw (e, ends) (rw f)
 
-  pub ends_more : (n : ℕ) (ns : List ℕ) → walk S area k ≡ some n → ends S area ks ≡ some ns → ends S area (k ∷ ks) ≡ some (n ∷ ns)
+  pub ends_more : (n : ℕ) (ns : List ℕ) → walk S area k ≡ Some n → ends S area ks ≡ Some ns → ends S area (k ∷ ks) ≡ Some (n ∷ ns)
   unfolding ends
   ends_more n ns e f = rw (e, ends) (rw f)
 
@@ -87,7 +87,7 @@ image_indexed S sized rules n area e =
 -- a walk ended at a record, and every rule is hit there exactly when it is hit by the whole key
 pub record Ended (S : Shape) (rules : List Rule) (k : Key) (o : Option ℕ) : Type 0 where
   pub end : ℕ
-  pub there : o ≡ some end
+  pub there : o ≡ Some end
   pub key : Key
   pub stands : Stands (keys S.fields rules) end key
   pub hits : map (hit key) rules ≡ map (hit k) rules

@@ -4,7 +4,7 @@ use mathlib.Core.Path.{◌≡◌, sym, ap, ap₂, ◌∙◌}
 use mathlib.Core.Logic.{⊎_elim}
 use mathlib.Core.Bool.{Bool, true, false, ◌||◌}
 use mathlib.Core.List.{List, [], ◌∷◌}
-use mathlib.Core.Option.{none, some}
+use Rattle.std.specs.Prelude.{None, Some}
 use Prim.Native.Nat.{ℕ, ◌+◌, ◌-◌, ◌*◌, ◌/◌, ◌≤◌, ◌<◌}
 use native.Mathlib.Omega.{arith}
 use lib.Dec.{eqb, ltb, leb}
@@ -38,10 +38,10 @@ module _ (area : List ℕ) (n value width j b : ℕ) (inside : j < width) (is : 
       let small = bit_small width value j in
       ap (λ (x : ℕ). get_or (row_at desk_shape area n) x 0) (digit_of (bit_of width value j) small ∙ sym is) ∙ row_word area n b (omega arith)
 
-  pub step_stop : child_at ≡ 0 → walk_from desk_shape area n (bits (width - j) value) ≡ some n
+  pub step_stop : child_at ≡ 0 → walk_from desk_shape area n (bits (width - j) value) ≡ Some n
   step_stop e = ap (walk_from desk_shape area n) (bits_from width value j inside) ∙ walk_stop desk_shape area n top rest (eq-eqb (next desk_shape area n top) 0 (child_read ∙ e))
 
-  pub step_bad : (child_at ≡ 0 → ⊥) → bad desk_shape area child_at ≡ true → walk_from desk_shape area n (bits (width - j) value) ≡ none
+  pub step_bad : (child_at ≡ 0 → ⊥) → bad desk_shape area child_at ≡ true → walk_from desk_shape area n (bits (width - j) value) ≡ None
   step_bad z d =
       ap (walk_from desk_shape area n) (bits_from width value j inside)
       ∙ walk_bad desk_shape area n top rest (ne_eqb (next desk_shape area n top) 0 (λ e. z (sym child_read ∙ e))) (ap (bad desk_shape area) child_read ∙ d)
@@ -71,16 +71,16 @@ good_inside : (area : List ℕ) (c : ℕ) → bad desk_shape area c ≡ false �
 unfolding bad
 good_inside area c d = leb-false (length area / record_words) c (or_falses (ltb c 5) (leb (length area / record_words) c) d).1
 
-some_same : (n m : ℕ) → some n ≡ some m → n ≡ m
+some_same : (n m : ℕ) → Some n ≡ Some m → n ≡ m
 some_same n m e = cc
 
-none_some : (m : ℕ) → none ≡ some m → ⊥
+none_some : (m : ℕ) → None ≡ Some m → ⊥
 none_some m e = let z : ◌≡◌ {A = ℕ} 0 1 = cc in omega arith
 
 -- ---- a whole walk
 
 -- one that starts in the area ends there
-pub walk_inside : (area : List ℕ) (p : Path) (n m : ℕ) → n < length area / record_words → walk_from desk_shape area n p ≡ some m → m < length area / record_words
+pub walk_inside : (area : List ℕ) (p : Path) (n m : ℕ) → n < length area / record_words → walk_from desk_shape area n p ≡ Some m → m < length area / record_words
 unfolding walk_from
 walk_inside area [] n m h e = let same = some_same n m e in omega arith
 walk_inside area (b ∷ bs) n m h e =

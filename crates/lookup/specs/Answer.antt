@@ -1,7 +1,7 @@
 -- What a table and a header fix, whatever the index: the lowest rule that matches, its action, and the false blocks. Said as lookup's answer.
 -- Assumes nothing.
 use Rattle.std.specs.Prelude.{List, ℕ}
-use Rattle.std.proofs.Math.Option.{Option, none, some}
+use Rattle.std.specs.Prelude.{Option, None, Some}
 use Rattle.rules.specs.Rule.{Rule}
 use Rattle.rules.specs.Table.{rules_of}
 use Rattle.rules.specs.Header.{header_values}
@@ -11,8 +11,8 @@ use Rattle.lookup.specs.Said.{match_said, no_match_said}
 
 -- of the rule that wins, its place and its action; in an accepted table no action is unknown (`answer_match`)
 unfoldable pub winner_said : List Rule → ℕ → Option ℕ → List ℕ
-winner_said rules falses none = no_match_said falses
-winner_said rules falses (some place) = match_said falses place (rule_at rules place).action
+winner_said rules falses None = no_match_said falses
+winner_said rules falses (Some place) = match_said falses place (rule_at rules place).action
 
 -- of rules and a header's values: "the lowest place wins", and the false blocks of the 8 blocks of 32 places
 unfoldable pub rules_answer : List Rule → List ℕ → List ℕ

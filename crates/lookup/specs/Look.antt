@@ -1,9 +1,10 @@
 -- Lookup, step by step over any table, area and header (01: "Looking up a header", "The desk's numbers").
 -- Assumes nothing.
 use Rattle.std.specs.Prelude.{not, cond, List, [], ◌∷◌, map, ℕ, suc, ◌*◌, ◌%◌, eqb, ltb, length}
-use Rattle.std.proofs.Math.Option.{Option, none, some}
+use Rattle.std.specs.Prelude.{Option, None, Some}
 use Rattle.bits.specs.Path.{bits}
-use Rattle.rules.specs.Field.{Field, fields}
+use Rattle.rules.specs.declared.fields.Field.{Field}
+use Rattle.rules.specs.Field.{fields}
 use Rattle.rules.specs.Action.{action_in}
 use Rattle.rules.specs.Table.{record_size, most_rules, rule_count, record_at}
 use Rattle.rules.specs.Header.{header_size, header_values}
@@ -34,7 +35,7 @@ widths = map (λ (f : Field). f.width) fields
 -- walk in each field, gather the vectors and what stands over them, and try the blocks; nothing where a walk meets damage
 unfoldable pub lookup_steps : Shape → List ℕ → List Key → Option Found
 lookup_steps S area ks =
-    elim (ends S area ks) [ none ↦ none | some ns ↦ some (resolve S (map (summaries_at S area) ns) (map (vector_at S area) ns)) ]
+    elim (ends S area ks) [ None ↦ None | Some ns ↦ Some (resolve S (map (summaries_at S area) ns) (map (vector_at S area) ns)) ]
 
 -- ---- what is said
 
@@ -42,15 +43,15 @@ lookup_steps S area ks =
 unfoldable pub found_said : List ℕ → Found → List ℕ
 found_said table r =
     elim r.place [
-      | none ↦ no_match_said r.falses
-      | some place ↦
+      | None ↦ no_match_said r.falses
+      | Some place ↦
           cond (ltb place (rule_count table)) (match_said r.falses place (action_in (record_at table place))) (9 ∷ [])
     ]
 
 -- 9 where a walk met damage
 unfoldable pub steps_said : List ℕ → Option Found → List ℕ
-steps_said table none = 9 ∷ []
-steps_said table (some r) = found_said table r
+steps_said table None = 9 ∷ []
+steps_said table (Some r) = found_said table r
 
 -- "under 55 words": those of the five roots
 abbrev pub least_words : ℕ

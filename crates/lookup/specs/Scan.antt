@@ -1,7 +1,7 @@
 -- Blocks in order: from the fields' summaries and vectors to a place and the number of false blocks.
 -- Assumes nothing.
 use Rattle.std.specs.Prelude.{Bool, true, false, List, map, ℕ, zero, suc, ◌+◌, ◌*◌, eqb, get_or}
-use Rattle.std.proofs.Math.Option.{Option, none, some}
+use Rattle.std.specs.Prelude.{Option, None, Some}
 use Rattle.std.specs.Int.Count.{count_trailing_zeros}
 use Rattle.bits.specs.Word.{and_all}
 use Rattle.area.specs.Shape.{Shape}
@@ -17,13 +17,13 @@ found p n = record { place = p; falses = n }
 -- the k blocks from b on: an untried one is passed over; "A false block is one tried with a zero intersection";
 -- "the first with a nonzero intersection gives the place, as the count of trailing zeros in the intersected word"
 unfoldable pub scan : ℕ → (ℕ → Bool) → (ℕ → ℕ) → ℕ → ℕ → Found
-scan size tried word zero b = found none 0
+scan size tried word zero b = found None 0
 scan size tried word (suc k) b =
     let rest = scan size tried word k (suc b) in
     elim (tried b) [
       | false ↦ rest
       | true ↦
-          elim (eqb (word b) 0) [ true ↦ found rest.place (suc rest.falses) | false ↦ found (some (b * size + count_trailing_zeros size (word b))) 0 ]
+          elim (eqb (word b) 0) [ true ↦ found rest.place (suc rest.falses) | false ↦ found (Some (b * size + count_trailing_zeros size (word b))) 0 ]
     ]
 
 module _ (S : Shape) where

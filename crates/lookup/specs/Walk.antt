@@ -2,7 +2,7 @@
 -- the walks of a header reach. A walk that meets damage reaches nothing.
 -- Assumes nothing.
 use Rattle.std.specs.Prelude.{Bool, true, false, ◌||◌, List, [], ◌∷◌, ℕ, ◌+◌, ◌*◌, ◌/◌, eqb, ltb, leb, length, get_or, take, drop}
-use Rattle.std.proofs.Math.Option.{Option, none, some}
+use Rattle.std.specs.Prelude.{Option, None, Some}
 use Rattle.bits.specs.Path.{Path}
 use Rattle.bits.specs.Word.{digit}
 use Rattle.area.specs.Shape.{Shape, width}
@@ -19,10 +19,10 @@ module _ (S : Shape) where
 
   -- "go down by the value's bits, from the top, until a child is missing or the value is used up": from record n, over the bits that are left
   unfoldable pub walk_from : List ℕ → ℕ → Path → Option ℕ
-  walk_from area n [] = some n
+  walk_from area n [] = Some n
   walk_from area n (b ∷ bs) =
       let c = get_or (row_at area n) (digit b) 0 in
-      elim (eqb c 0) [ true ↦ some n | false ↦ elim (bad area c) [ true ↦ none | false ↦ walk_from area c bs ] ]
+      elim (eqb c 0) [ true ↦ Some n | false ↦ elim (bad area c) [ true ↦ None | false ↦ walk_from area c bs ] ]
 
   -- "Records 0 to 4 are the roots of the five fields": a field's walk starts at the record of its number
   unfoldable pub walk : List ℕ → Key → Option ℕ
@@ -30,9 +30,9 @@ module _ (S : Shape) where
 
   -- "The last record reached gives that field's vector": the records reached, "fields in order"
   unfoldable pub ends : List ℕ → List Key → Option (List ℕ)
-  ends area [] = some []
+  ends area [] = Some []
   ends area (k ∷ ks) =
-      elim (walk area k) [ none ↦ none | some n ↦ elim (ends area ks) [ none ↦ none | some ns ↦ some (n ∷ ns) ] ]
+      elim (walk area k) [ None ↦ None | Some n ↦ elim (ends area ks) [ None ↦ None | Some ns ↦ Some (n ∷ ns) ] ]
 
   -- of a record, what stands over its vector, after the two children
   unfoldable pub summaries_at : List ℕ → ℕ → List ℕ

@@ -4,29 +4,37 @@ ghost use Rattle.area.specs.Shape.{desk_shape, record_words};
 ghost use Rattle.lookup.specs.Walk.{vector_at};
 ghost use Rattle.lookup.specs.InCode.{aggregate_at, AllInside};
 
+use area::{AGGREGATE_START, BLOCKS, RECORD_WORDS};
+
 // The vector of one record.
-fn vector_at(area: &[u32], row: usize) -> [u32; area::BLOCKS]
+fn vector_at(area: &[u32], row: usize) -> [u32; BLOCKS]
     requires { row < length area.now / record_words }
     ensures { result ≡ vector_at desk_shape area.now row }
 {
-    let mut vector = [0u32; area::BLOCKS];
-    let start = area::RECORD_WORDS * row + area::VECTOR_START;
-    for b in 0..area::BLOCKS {
-        vector[b] = area[start + b];
-    }
-    vector
+    *area::vector(area, row)
 }
 
 // The five vectors, indexed by field and then by block.
-pub fn vectors_at(area: &[u32], records: [usize; 5]) -> [[u32; area::BLOCKS]; 5]
+pub fn vectors_at(area: &[u32], records: [usize; 5]) -> [[u32; BLOCKS]; 5]
     requires { AllInside area.now records }
     ensures { result ≡ map (vector_at desk_shape area.now) records }
 {
-    let mut vectors = [[0u32; area::BLOCKS]; 5];
-    for f in 0..rules::FIELDS {
-        vectors[f] = vector_at(area, records[f]);
-    }
-    vectors
+    let [source, destination, sport, dport, protocol] = records;
+    [
+        vector_at(area, source),
+        vector_at(area, destination),
+        vector_at(area, sport),
+        vector_at(area, dport),
+        vector_at(area, protocol),
+    ]
+}
+
+// The aggregate of one record.
+fn aggregate_at(area: &[u32], row: usize) -> u32
+    requires { row < length area.now / record_words }
+    ensures { result ≡ aggregate_at area.now row }
+{
+    area[RECORD_WORDS * row + AGGREGATE_START]
 }
 
 // Their five aggregates.
@@ -34,10 +42,12 @@ pub fn aggregates_at(area: &[u32], records: [usize; 5]) -> [u32; 5]
     requires { AllInside area.now records }
     ensures { result ≡ map (aggregate_at area.now) records }
 {
-    let mut aggregates = [0u32; 5];
-    for f in 0..rules::FIELDS {
-        let row = records[f];
-        aggregates[f] = area[area::RECORD_WORDS * row + area::AGGREGATE_START];
-    }
-    aggregates
+    let [source, destination, sport, dport, protocol] = records;
+    [
+        aggregate_at(area, source),
+        aggregate_at(area, destination),
+        aggregate_at(area, sport),
+        aggregate_at(area, dport),
+        aggregate_at(area, protocol),
+    ]
 }

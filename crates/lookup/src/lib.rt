@@ -9,7 +9,8 @@ mod walk;
 
 pub use steps::look;
 
-// 01: "A match carries its place and, inside it, the action".
+// 01: "A match carries its place and, inside it, the action", "an outcome enum whose match case holds a place and an action enum"; so it
+// is no `Option`.
 #[derive(Clone, Copy)]
 pub enum Outcome {
     NoMatch,
@@ -21,10 +22,4 @@ pub enum Outcome {
 pub struct Answer {
     pub falses: usize,
     pub outcome: Outcome,
-}
-
-#[derive(Clone, Copy)]
-pub enum Looked {
-    Found(Answer),
-    Refused(rules::Refusal),
 }

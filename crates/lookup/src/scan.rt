@@ -12,7 +12,7 @@ const BLOCK_PLACES: usize = 32;
 // What the blocks gave: the lowest place that all five vectors have, and the number of false blocks.
 #[derive(Clone, Copy)]
 pub struct Scanned {
-    pub place: rules::Place,
+    pub place: Option<usize>,
     pub falses: usize,
 }
 
@@ -57,18 +57,19 @@ pub fn try_blocks(vectors: [[u32; area::BLOCKS]; 5], aggregates: [u32; 5]) -> Sc
     ensures { scanned result ≡ scan 32 (bit (and_all 32 aggregates)) (meet desk_shape vectors) blocks 0 }
 {
     let tried = common_bits(aggregates);
-    let mut falses: usize = 0;
+    let mut falses = 0;
+    // By number: a block's number is its bit in an aggregate, and gives the place.
     for b in 0..area::BLOCKS {
         if is_set(tried, b) {
             let word = intersect(vectors, b);
             let hit = word != 0;
             if hit {
-                let place = rules::Place::At(b * BLOCK_PLACES + lowest(word));
+                let place = Some(b * BLOCK_PLACES + lowest(word));
                 return Scanned { place, falses };
             }
             falses += 1;
         }
     }
-    let place = rules::Place::Nowhere;
+    let place = None;
     Scanned { place, falses }
 }

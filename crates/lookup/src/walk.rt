@@ -1,67 +1,55 @@
 // Going down the area by a header's bits: one field's walk, and the walks of all five.
-ghost use Rattle.std.specs.Prelude.{◌≡◌, ◌/◌, ◌≤◌, ◌<◌, length};
+ghost use Rattle.std.specs.Prelude.{◌≡◌, ◌/◌, ◌≤◌, ◌<◌, IfSome, length};
 ghost use Rattle.bits.specs.Path.{bits};
 ghost use Rattle.rules.specs.Header.{header_size, header_values};
 ghost use Rattle.area.specs.Shape.{desk_shape, record_words};
-ghost use Rattle.lookup.specs.Walk.{walk_from, ends};
+ghost use Rattle.lookup.specs.Walk.{walk_from, walk, ends};
 ghost use Rattle.lookup.specs.Look.{header_keys, widths, least_words};
-ghost use Rattle.lookup.specs.InCode.{reached, reached_all, AllInside};
+ghost use Rattle.lookup.specs.InCode.{AllInside, key_at};
 
-// Where one field's walk ends.
-#[derive(Clone, Copy)]
-pub enum Walk {
-    Ends(usize),
-    Damaged,
-}
+use bits::Prefix;
 
-// Where the five walks end, in the order of the fields; not `sound` where one met damage, and then
-// the records mean nothing. (An enum that holds an array is not covered by the borrow checker.)
-#[derive(Clone, Copy)]
-pub struct Ends {
-    pub sound: bool,
-    pub records: [usize; 5],
-}
-
-// Down by the bits of a value, from the top, until a child is missing or the value is used up.
+// Down by the bits of a value, from the top, until a child is missing or the value is used up; None where one is damaged.
 #[tactic(auto, using(bits::proofs::DigitLaws::bit_small))]
-fn go_down(area: &[u32], root: usize, value: u32, width: usize) -> Walk
-    requires { (root < length area.now / record_words) × (width ≤ 32) }
-    ensures { reached result ≡ walk_from desk_shape area.now root (bits width value) }
+fn go_down(area: &[u32], root: usize, value: Prefix) -> Option<usize>
+    requires { root < length area.now / record_words }
+    ensures { result ≡ walk_from desk_shape area.now root (bits value.width value.value) }
 {
     let records = area.len() / area::RECORD_WORDS;
     let mut row = root;
-    for j in 0..width {
-        let child = area[area::RECORD_WORDS * row + bits::bit_of(value, width, j)] as usize;
+    // By number: a bit's number is what is asked of the value.
+    for j in 0..value.width {
+        let child = area[area::RECORD_WORDS * row + value.bit(j)] as usize;
         if child == 0 {
-            return Walk::Ends(row);
+            return Some(row);
         }
         if child < rules::FIELDS || records <= child {
-            return Walk::Damaged;
+            return None;
         }
         row = child;
     }
-    Walk::Ends(row)
+    Some(row)
 }
 
-// The walks of a header, field by field.
-pub fn go_down_all(area: &[u32], header: &[u8]) -> Ends
-    requires { (least_words ≤ length area.now) × (length header.now ≡ header_size) }
-    ensures { (reached_all result ≡ ends desk_shape area.now (header_keys widths (header_values header.now))) × AllInside area.now result.records }
+// The walk of a header's field f, from its root.
+fn walk(area: &[u32], header: &[u8], f: usize) -> Option<usize>
+    requires { (f < 5) × (least_words ≤ length area.now) × (length header.now ≡ header_size) }
+    ensures end { result ≡ walk desk_shape area.now (key_at header.now f) }
+    ensures inside { IfSome result (λ n. n < length area.now / record_words) }
 {
-    let mut records = [0usize; 5];
-    for f in 0..rules::FIELDS {
-        let value = rules::value_of(header, f);
-        let width = rules::width_of(f);
-        let Walk::Ends(row) = go_down(area, f, value, width) else {
-            return Ends {
-                sound: false,
-                records,
-            };
-        };
-        records[f] = row;
-    }
-    Ends {
-        sound: true,
-        records,
-    }
+    go_down(area, f, rules::whole_value(header, f))
+}
+
+// Where the five walks of a header end, in the order of the fields; None where one met damage.
+pub fn go_down_all(area: &[u32], header: &[u8]) -> Option<[usize; 5]>
+    requires { (least_words ≤ length area.now) × (length header.now ≡ header_size) }
+    ensures ends { result ≡ ends desk_shape area.now (header_keys widths (header_values header.now)) }
+    ensures inside { IfSome result (λ records. AllInside area.now records) }
+{
+    let source = walk(area, header, 0)?;
+    let destination = walk(area, header, 1)?;
+    let sport = walk(area, header, 2)?;
+    let dport = walk(area, header, 3)?;
+    let protocol = walk(area, header, 4)?;
+    Some([source, destination, sport, dport, protocol])
 }

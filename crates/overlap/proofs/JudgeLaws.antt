@@ -5,7 +5,7 @@ use mathlib.Core.Path.{◌≡◌, sym, ap, ◌∙◌}
 use mathlib.Core.Logic.{◌↔◌, ⊎_elim}
 use mathlib.Core.Bool.{true, false, not}
 use mathlib.Core.List.{List}
-use mathlib.Core.Option.{some}
+use Rattle.std.specs.Prelude.{Some}
 use Prim.Native.Nat.{ℕ, ◌≤◌, ◌<◌}
 use native.Mathlib.Omega.{arith}
 use lib.Dec.{ltb}
@@ -124,7 +124,7 @@ module _ (rules : List Rule) (o : List ℕ) where
     first = λ q m b. (keeps_exact q).1 (c.first q ((triangle_exact (length rules) q).0 m) b);
   }
 
-  pub crossing_exact : (p : Pair) → (crossing rules o ≡ some p) ↔ Crossed p
+  pub crossing_exact : (p : Pair) → (crossing rules o ≡ Some p) ↔ Crossed p
   unfolding crossing
   crossing_exact p = (
     λ e. earliest_crossed p (rw e at told),

@@ -6,10 +6,11 @@ use mathlib.Core.Logic.{◌↔◌, ⊎_elim}
 use mathlib.Core.Bool.{Bool, true, false}
 use mathlib.Core.List.Memᴰ
 use mathlib.Core.List.{List, [], ◌∷◌, ◌++◌, Memᴰ}
-use mathlib.Core.Option.{Option, none, some, none-ne-some}
+use Rattle.std.specs.Prelude.{Option, None, Some}
 use Prim.Native.Nat.{◌≤◌}
 use native.Mathlib.Omega.{arith}
 use lib.ListN.{length}
+use Rattle.std.proofs.lemmas.Option.{none-some}
 use Rattle.bits.proofs.TestLaws.{decided, clash}
 use Rattle.overlap.specs.Pairs.{Pair, keep, first_of}
 use Rattle.overlap.proofs.SortedLaws.{Before, before_apart, before_once, before_or, Sorted}
@@ -75,7 +76,7 @@ module _ {A : Type 0} (test : A → Bool) where
 -- ---- the first that passes
 
 module _ {A : Type 0} (test : A → Bool) where
-  pub first_here : (x : A) (xs : List A) → test x ≡ true → first_of test (x ∷ xs) ≡ some x
+  pub first_here : (x : A) (xs : List A) → test x ≡ true → first_of test (x ∷ xs) ≡ Some x
   unfolding first_of
   first_here x xs e = rw (e, first_of)
 
@@ -84,21 +85,21 @@ module _ {A : Type 0} (test : A → Bool) where
   first_later x xs e = rw (e, first_of)
 
   -- of two lists
-  pub first_left : (xs ys : List A) (x : A) → first_of test xs ≡ some x → first_of test (xs ++ ys) ≡ some x
+  pub first_left : (xs ys : List A) (x : A) → first_of test xs ≡ Some x → first_of test (xs ++ ys) ≡ Some x
   unfolding first_of
-  first_left [] ys x e = absurd (none-ne-some x e)
+  first_left [] ys x e = absurd (none-some x e)
   first_left (z ∷ xs) ys x e =
       ⊎_elim
       (λ t. first_here z (xs ++ ys) t ∙ sym (first_here z xs t) ∙ e)
       (λ f. first_later z (xs ++ ys) f ∙ first_left xs ys x (sym (first_later z xs f) ∙ e))
       (decided (test z))
 
-  pub first_right : (xs ys : List A) → first_of test xs ≡ none → first_of test (xs ++ ys) ≡ first_of test ys
+  pub first_right : (xs ys : List A) → first_of test xs ≡ None → first_of test (xs ++ ys) ≡ first_of test ys
   unfolding first_of
   first_right [] ys e = refl
   first_right (z ∷ xs) ys e =
       ⊎_elim
-      (λ t. absurd (none-ne-some z (sym e ∙ first_here z xs t)))
+      (λ t. absurd (none-some z (sym e ∙ first_here z xs t)))
       (λ f. first_later z (xs ++ ys) f ∙ first_right xs ys (sym (first_later z xs f) ∙ e))
       (decided (test z))
 
@@ -137,42 +138,42 @@ module _ (test : Pair → Bool) where
 
   -- what `first_of` answered, as a fact
   abbrev pub FirstTold : List Pair → Option Pair → Type 0
-  FirstTold ps none = NonePasses ps
-  FirstTold ps (some p) = Earliest ps p
+  FirstTold ps None = NonePasses ps
+  FirstTold ps (Some p) = Earliest ps p
 
   pub first_told_lem : (ps : List Pair) → Sorted ps → FirstTold ps (first_of test ps)
   unfolding first_of
   first_told_lem [] s = λ q m. absurd (Memᴰ.not-nil m)
   first_told_lem (p ∷ ps) s = step (test p) refl (first_of test ps) (first_told_lem ps s.1)
     where
-      step : (b : Bool) → test p ≡ b → (o : Option Pair) → FirstTold ps o → FirstTold (p ∷ ps) (elim b [ true ↦ some p | false ↦ o ])
+      step : (b : Bool) → test p ≡ b → (o : Option Pair) → FirstTold ps o → FirstTold (p ∷ ps) (elim b [ true ↦ Some p | false ↦ o ])
       step true e o t = record {
         in_list = Memᴰ.head refl;
         passes = e;
         first = λ q m b.
             ⊎_elim (λ (same : q ≡ p). absurd (before_once q p b same)) (λ n. absurd (before_apart p q (s.0 q n) b)) (Memᴰ.cases_cons m);
       }
-      step false e none t = λ q m. ⊎_elim (λ (same : q ≡ p). ap test same ∙ e) (λ n. t q n) (Memᴰ.cases_cons m)
-      step false e (some x) t = record {
+      step false e None t = λ q m. ⊎_elim (λ (same : q ≡ p). ap test same ∙ e) (λ n. t q n) (Memᴰ.cases_cons m)
+      step false e (Some x) t = record {
         in_list = Memᴰ.tail t.in_list;
         passes = t.passes;
         first = λ q m b. ⊎_elim (λ (same : q ≡ p). ap test same ∙ e) (λ n. t.first q n b) (Memᴰ.cases_cons m);
       }
 
   -- the other way round: the facts fix the answer
-  pub first_none : (ps : List Pair) → Sorted ps → NonePasses ps → first_of test ps ≡ none
+  pub first_none : (ps : List Pair) → Sorted ps → NonePasses ps → first_of test ps ≡ None
   first_none ps s all = go (first_of test ps) (first_told_lem ps s)
     where
-      go : (o : Option Pair) → FirstTold ps o → o ≡ none
-      go none t = refl
-      go (some p) t = clash t.passes (all p t.in_list)
+      go : (o : Option Pair) → FirstTold ps o → o ≡ None
+      go None t = refl
+      go (Some p) t = clash t.passes (all p t.in_list)
 
-  pub first_some : (ps : List Pair) (p : Pair) → Sorted ps → Earliest ps p → first_of test ps ≡ some p
+  pub first_some : (ps : List Pair) (p : Pair) → Sorted ps → Earliest ps p → first_of test ps ≡ Some p
   first_some ps p s is = go (first_of test ps) (first_told_lem ps s)
     where
-      go : (o : Option Pair) → FirstTold ps o → o ≡ some p
-      go none t = clash is.passes (t p is.in_list)
-      go (some q) t =
+      go : (o : Option Pair) → FirstTold ps o → o ≡ Some p
+      go None t = clash is.passes (t p is.in_list)
+      go (Some q) t =
           ⊎_elim (λ b. clash t.passes (is.first q t.in_list b))
-          (⊎_elim (λ (e : q ≡ p). ap some e) (λ b. clash is.passes (t.first p is.in_list b)))
+          (⊎_elim (λ (e : q ≡ p). ap Some e) (λ b. clash is.passes (t.first p is.in_list b)))
           (before_or q p)

@@ -13,5 +13,6 @@ pub mod ListedHeaders
 pub mod LoopLaws
 pub mod InverseLaws
 pub mod ObstacleLaws
+pub mod FindMapLaws
 pub mod PutLaws
 pub mod EntryLaws

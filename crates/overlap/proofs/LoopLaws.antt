@@ -1,17 +1,22 @@
 -- Loops over pairs, in the code's `i + 1`: a row is its first pair and the row after it, all pairs from a place on are that place's row and
 -- the pairs after it; so what is listed of them, and what is written of that, comes in the same two parts.
 -- Assumes nothing.
-use mathlib.Core.Path.{◌≡◌, refl, sym, ap, ◌∙◌}
+use mathlib.Core.Path.{◌≡◌, refl, sym, ap, ap₂, ◌∙◌}
 use mathlib.Core.Bool.{Bool, true, false}
+use mathlib.Core.Logic.{⊎_elim}
 use mathlib.Core.List.{List, [], ◌∷◌, ◌++◌}
 use Prim.Native.Nat.{ℕ, zero, suc, ◌+◌, ◌-◌, ◌*◌, ◌^◌, ◌≤◌, ◌<◌}
 use native.Mathlib.Numerals.{add-one}
 use native.Mathlib.Omega.{arith}
 use lib.ListN.{length, length-append}
+use Rattle.std.specs.List.{filter, range_with_len, sum_by}
+use Rattle.std.proofs.lemmas.List.Sums.{sum_by-cons}
+use Rattle.rules.specs.Rule.{Rule, rule_of}
 use Rattle.rules.specs.Match.{rule_at}
-use Rattle.rules.specs.Table.{rule_count, rules_of, Accepted}
+use Rattle.rules.specs.Table.{rule_count, record_at, rules_of, Accepted}
+use Rattle.bits.proofs.TestLaws.{decided}
 use Rattle.rules.proofs.TableLaws.{accepted_sound}
-use Rattle.rules.proofs.MatchLaws.{rules_size}
+use Rattle.rules.proofs.MatchLaws.{rules_size, rules_at}
 use Rattle.overlap.specs.Pairs.{Pair, row, triangle, keep, listed, on_pair, pairs_of, entries}
 use Rattle.overlap.specs.Steps.{listed_row, listed_with, listed_from}
 use Rattle.overlap.proofs.SortedLaws.{pair}
@@ -99,6 +104,33 @@ pairs_few table ok =
     let n = length (rules_of table) in
     let few : n ≤ 256 = omega (arith, rules_size table, (accepted_sound table ok).few) in
     omega (arith, keep_few (on_pair listed (rules_of table)) (triangle 0 n), triangle_few 0 n few)
+
+-- ---- how many, as they are counted
+
+-- of place i, whose rule is a, with the m places from j on
+pub row_counted : (table : List ℕ) (a : Rule) (i j m : ℕ) → a ≡ rule_at (rules_of table) i → j + m ≤ rule_count table
+    → length (listed_row table i j m) ≡ length (filter (λ higher. listed a (rule_of (record_at table higher))) (range_with_len j m))
+unfolding row keep on_pair
+row_counted table a i j zero here inside = refl
+row_counted table a i j (suc m) here inside =
+    let same : listed (rule_at (rules_of table) i) (rule_at (rules_of table) j) ≡ listed a (rule_of (record_at table j)) =
+    ap₂ listed (sym here) (rules_at table j (omega arith))
+    in
+    let rest = row_counted table a i (j + 1) m here (omega arith) in
+    let later : listed_row table i (suc j) m ≡ listed_row table i (j + 1) m = ap (λ (k : ℕ). listed_row table i k m) (sym (add-one j)) in
+    ⊎_elim
+    (λ e. rw e (ap length (keep_here (test table) (pair i j) (row i (suc j) m) (same ∙ e)) ∙ ap suc (ap length later ∙ rest)))
+    (λ e. rw e (ap length (keep_later (test table) (pair i j) (row i (suc j) m) (same ∙ e)) ∙ ap length later ∙ rest))
+    (decided (listed a (rule_of (record_at table j))))
+
+-- of all places from i on, row by row
+pub rows_counted : (table : List ℕ) (i m : ℕ) → i + m ≡ rule_count table
+    → sum_by (λ lower. length (listed_with table lower)) (range_with_len i m) ≡ length (listed_from table i)
+rows_counted table i zero whole = ap length (sym (rows_done table i (omega arith)))
+rows_counted table i (suc m) whole =
+    sum_by-cons (λ lower. length (listed_with table lower)) i (range_with_len (i + 1) m)
+    ∙ ap (λ (k : ℕ). length (listed_with table i) + k) (rows_counted table (i + 1) m (omega arith))
+    ∙ sym (ap length (rows_parts table i (omega arith)) ∙ length-append (listed_with table i) (listed_from table (i + 1)))
 
 -- ---- what is written
 

@@ -5,7 +5,8 @@ use mathlib.Core.Path.{◌≡◌, refl, sym, ap, ◌∙◌}
 use mathlib.Core.Logic.{⊎_elim}
 use mathlib.Core.Bool.{true}
 use mathlib.Core.List.{List}
-use mathlib.Core.Option.{Option, none, some, map}
+use Rattle.std.specs.Prelude.{Option, None, Some}
+use Rattle.std.specs.Option.{option_map}
 use Prim.Native.Nat.{ℕ, ◌<◌}
 use native.Mathlib.Omega.{arith}
 use lib.ListN.{length, length-map}
@@ -78,13 +79,13 @@ module _ (rules : List Rule) (o : List ℕ) (O : Order (length rules) o) (h : Li
     kept_answer = go (first_match rules h) (match_told rules h) (first_match (moved rules o) h) (match_told (moved rules o) h)
       where
         go : (a : Option ℕ) → Told (matches_at rules h) (length rules) a → (b : Option ℕ) → Told (matches_at (moved rules o) h) (length (moved rules o)) b
-            → map (λ k. (rule_at (moved rules o) k).action) b ≡ map (λ i. (rule_at rules i).action) a
-        go none N none M = refl
-        go none N (some k) M =
+            → option_map (λ k. (rule_at (moved rules o) k).action) b ≡ option_map (λ i. (rule_at rules i).action) a
+        go None N None M = refl
+        go None N (Some k) M =
             let l = below k M.below in
             clash (sym (hit_old k l) ∙ M.passes) (N (old_place o k) (O.below k l))
-        go (some i) L none M = clash (hit_new i L.below ∙ L.passes) (M (new_place o i) (rw (moved_size rules o, O.size) (O.new_below i L.below)))
-        go (some i) L (some k) M = ap some (first_action i k L M)
+        go (Some i) L None M = clash (hit_new i L.below ∙ L.passes) (M (new_place o i) (rw (moved_size rules o, O.size) (O.new_below i L.below)))
+        go (Some i) L (Some k) M = ap Some (first_action i k L M)
 
 pub move_same_answer : (rules : List Rule) (o : List ℕ) → is_order (length rules) o ≡ true → Allowed rules o
     → (h : List ℕ) → answer_of (moved rules o) h ≡ answer_of rules h

@@ -4,8 +4,10 @@
 use mathlib.Core.Path.{◌≡◌, refl, sym, ap, ap₂, ◌∙◌}
 use mathlib.Core.Bool.{Bool, true, false, ◌&&◌}
 use mathlib.Core.List.{List, [], ◌∷◌, ◌++◌, nil≢cons, cons≢nil}
-use mathlib.Core.Option.{Option, none, some}
-use Prim.Native.Nat.{ℕ, ◌+◌, ◌-◌, ◌≤◌, ◌<◌}
+use native.Mathlib.Nat.{add-zero}
+use Rattle.std.specs.Prelude.{Option, None, Some, MatchOption}
+use Rattle.rules.specs.declared.Crossing.{Crossing}
+use Prim.Native.Nat.{ℕ, zero, suc, ◌+◌, ◌-◌, ◌≤◌, ◌<◌}
 use native.Mathlib.Omega.{arith}
 use lib.Dec.{ltb}
 use lib.ListN.{length, get_or}
@@ -17,13 +19,18 @@ use Rattle.overlap.specs.Pairs.{Pair, row, triangle, first_of, on_pair}
 use Rattle.overlap.specs.Order.{new_place}
 use Rattle.overlap.specs.Judge.{clashes, overtaken, crossing}
 use Rattle.overlap.specs.Steps.{Inverts}
-use Rattle.overlap.specs.Obstacle.{overtaken_by, pair_told, found_told, first_told}
+use Rattle.overlap.specs.Obstacle.{overtaken_by, pair_told, found_told, first_told, crossing_told, obstacle_told}
 use Rattle.overlap.proofs.SortedLaws.{pair}
 use Rattle.overlap.proofs.TriangleLaws.{triangle_exact}
 use Rattle.overlap.proofs.KeepLaws.{first_here, first_later, first_left, first_right, first_same}
 use Rattle.overlap.proofs.LoopLaws.{row_turn, row_over, triangle_turn, triangle_over}
 
 -- ---- what is told
+
+-- of place i with a place, or with none
+abbrev pub with_place : List Rule → ℕ → Option ℕ → List ℕ
+with_place rules i None = []
+with_place rules i (Some j) = pair_told rules i j
 
 module _ (rules : List Rule) (places : List ℕ) where
   abbrev test : Pair → Bool
@@ -34,16 +41,16 @@ module _ (rules : List Rule) (places : List ℕ) where
   told_left ps qs v vs e = go (first_of test ps) refl e
     where
       go : (o : Option Pair) → first_of test ps ≡ o → found_told rules o ≡ v ∷ vs → found_told rules (first_of test (ps ++ qs)) ≡ v ∷ vs
-      go none f q = absurd (nil≢cons q)
-      go (some p) f q = ap (found_told rules) (first_left test ps qs p f) ∙ q
+      go None f q = absurd (nil≢cons q)
+      go (Some p) f q = ap (found_told rules) (first_left test ps qs p f) ∙ q
 
   told_right : (ps qs : List Pair) → first_told rules places ps ≡ [] → first_told rules places (ps ++ qs) ≡ first_told rules places qs
   unfolding first_told found_told pair_told
   told_right ps qs e = go (first_of test ps) refl e
     where
       go : (o : Option Pair) → first_of test ps ≡ o → found_told rules o ≡ [] → found_told rules (first_of test (ps ++ qs)) ≡ found_told rules (first_of test qs)
-      go none f q = ap (found_told rules) (first_right test ps qs f)
-      go (some p) f q = absurd (cons≢nil q)
+      go None f q = ap (found_told rules) (first_right test ps qs f)
+      go (Some p) f q = absurd (cons≢nil q)
 
   -- ---- in a row
 
@@ -80,6 +87,58 @@ module _ (rules : List Rule) (places : List ℕ) where
     unfolding first_told found_told first_of
     rows_none h = ap (first_told rules places) (triangle_over n i h)
 
+  -- ---- the first that a search finds
+
+  -- what stays from each number to the next is the same at the last as at the first
+  carried : (T : ℕ → List ℕ) (a d : ℕ) → ((j : ℕ) → a ≤ j → j < a + d → T j ≡ T (j + 1)) → T a ≡ T (a + d)
+  carried T a zero h = ap T (sym (add-zero a))
+  carried T a (suc d) h =
+      let e : a + d + 1 ≡ a + suc d = omega arith in
+      carried T a d (λ j l g. h j l (omega arith)) ∙ h (a + d) (omega arith) (omega arith) ∙ ap T e
+
+  along : (T : ℕ → List ℕ) (a b : ℕ) → a ≤ b → ((j : ℕ) → a ≤ j → j < b → T j ≡ T (j + 1)) → T a ≡ T b
+  along T a b l h =
+      let e : a + (b - a) ≡ b = omega arith in
+      carried T a (b - a) (λ j low high. h j low (omega arith)) ∙ ap T e
+
+  pub found_in_row : (n i a : ℕ) → a ≤ n → (o : Option ℕ)
+      → MatchOption o ((j : ℕ) → a ≤ j → j < n → overtaken_by rules places i j ≡ false)
+      (λ j. (a ≤ j) × (j < n) × (overtaken_by rules places i j ≡ true) × ((k : ℕ) → a ≤ k → k < j → overtaken_by rules places i k ≡ false))
+      → with_place rules i o ≡ first_told rules places (row i a (n - a))
+  found_in_row n i a l None passed =
+      sym
+      (along (λ j. first_told rules places (row i j (n - j))) a n l (λ j low high. row_later n i j high (passed j low high))
+      ∙ row_none n i n (omega arith))
+  found_in_row n i a l (Some j) first =
+      sym
+      (along (λ j. first_told rules places (row i j (n - j))) a j first.0 (λ k low high. row_later n i k (omega (arith, first.1)) (first.3 k low high))
+      ∙ row_here n i j first.1 first.2)
+
+  -- the answers of the rows, one after another
+  abbrev pub Says : ℕ → ℕ → Option Crossing → Type 0
+  Says n i r = obstacle_told r ≡ first_told rules places (row i (i + 1) (n - (i + 1)))
+
+  pub found_in_rows : (n : ℕ) (r : Option Crossing)
+      → MatchOption r ((j : ℕ) → 0 ≤ j → j < n → Says n j None) (λ y. (i : ℕ) × (0 ≤ i) × (i < n) × Says n i (Some y) × ((j : ℕ) → 0 ≤ j → j < i → Says n j None))
+      → obstacle_told r ≡ first_told rules places (triangle 0 n)
+  unfolding obstacle_told crossing_told
+  found_in_rows n r h = go r h ∙ ap (λ (m : ℕ). first_told rules places (triangle 0 m)) whole
+    where
+      whole : n - 0 ≡ n
+      whole = omega arith
+
+      go : (r : Option Crossing)
+          → MatchOption r ((j : ℕ) → 0 ≤ j → j < n → Says n j None) (λ y. (i : ℕ) × (0 ≤ i) × (i < n) × Says n i (Some y) × ((j : ℕ) → 0 ≤ j → j < i → Says n j None))
+          → obstacle_told r ≡ first_told rules places (triangle 0 (n - 0))
+      go None none =
+          sym
+          (along (λ j. first_told rules places (triangle j (n - j))) 0 n (omega arith) (λ j low high. rows_later n j high (sym (none j low high)))
+          ∙ rows_none n n (omega arith))
+      go (Some y) (i, low, inside, here, none) =
+          sym
+          (along (λ j. first_told rules places (triangle j (n - j))) 0 i low (λ j l high. rows_later n j (omega (arith, inside)) (sym (none j l high)))
+          ∙ rows_here n i inside _ _ (sym here))
+
 -- ---- by an order's new places, this is the judgement
 
 told_crossing : (rules : List Rule) (places order : List ℕ) → ((i : ℕ) → i < length rules → get_or places i 0 ≡ new_place order i)
@@ -92,8 +151,8 @@ told_crossing rules places order new =
     let w = (triangle_exact (length rules) p).0 m in
     ap₂ (λ (a b : ℕ). ltb b a && clashes (rule_at rules p.lower) (rule_at rules p.higher)) (new p.lower (omega arith)) (new p.higher w.inside)))
 
-pub told_order : (table order places : List ℕ) {valid : Bool} → Inverts (rule_count table) order valid places → valid ≡ true
+pub told_order : (table order places : List ℕ) → Inverts (rule_count table) order places
     → first_told (rules_of table) places (triangle 0 (rule_count table)) ≡ found_told (rules_of table) (crossing (rules_of table) order)
-told_order table order places inv e =
+told_order table order places inv =
     ap (λ (n : ℕ). first_told (rules_of table) places (triangle 0 n)) (sym (rules_size table))
-    ∙ told_crossing (rules_of table) places order (λ i h. inv.new (sym inv.exact ∙ e) i (omega (arith, rules_size table)))
+    ∙ told_crossing (rules_of table) places order (λ i h. inv.new i (omega (arith, rules_size table)))

@@ -5,7 +5,8 @@ use mathlib.Core.Path.{◌≡◌, refl, sym, ap, ◌∙◌}
 use mathlib.Core.Logic.{◌↔◌, ⊎_elim}
 use mathlib.Core.Bool.{true, false, not, ◌&&◌}
 use mathlib.Core.List.{List, [], ◌∷◌}
-use mathlib.Core.Option.{Option, none, some, get_or}
+use Rattle.std.specs.Prelude.{Option, None, Some}
+use Rattle.std.specs.Option.{unwrap_or}
 use Prim.Native.Nat.{ℕ, suc, ◌≤◌, ◌<◌}
 use native.Mathlib.Omega.{arith}
 use lib.Dec.{eqb, ltb}
@@ -75,17 +76,17 @@ unfolding new_place
 new_held o i k h e = go (lowest (λ k. eqb (old_place o k) i) (length o)) (lowest_told (λ k. eqb (old_place o k) i) (length o))
   where
     go : (p : Option ℕ) → Told (λ k. eqb (old_place o k) i) (length o) p
-        → (get_or p (length o) < length o) × (old_place o (get_or p (length o)) ≡ i)
-    go none t = clash (eq-eqb (old_place o k) i e) (t k h)
-    go (some p) t = (t.below, eqb-true (old_place o p) i t.passes)
+        → (unwrap_or p (length o) < length o) × (old_place o (unwrap_or p (length o)) ≡ i)
+    go None t = clash (eq-eqb (old_place o k) i e) (t k h)
+    go (Some p) t = (t.below, eqb-true (old_place o p) i t.passes)
 
 -- and every number below n does stand there: one left out would be one more
 full : (n : ℕ) (o : List ℕ) → Apart n n (old_place o) → (i : ℕ) → i < n → (k : ℕ) × (k < n) × (old_place o k ≡ i)
 full n o a i h = go (lowest (λ k. eqb (old_place o k) i) n) (lowest_told (λ k. eqb (old_place o k) i) n)
   where
     go : (p : Option ℕ) → Told (λ k. eqb (old_place o k) i) n p → (k : ℕ) × (k < n) × (old_place o k ≡ i)
-    go (some k) t = (k, t.below, eqb-true (old_place o k) i t.passes)
-    go none t = absurd (omega (arith, few (suc n) n (old_place (i ∷ o)) (apart_cons n n i o h (λ k l. eqb-false (old_place o k) i (t k l)) a)))
+    go (Some k) t = (k, t.below, eqb-true (old_place o k) i t.passes)
+    go None t = absurd (omega (arith, few (suc n) n (old_place (i ∷ o)) (apart_cons n n i o h (λ k l. eqb-false (old_place o k) i (t k l)) a)))
 
 -- what an order is: old and new places undo one another
 pub record Order (n : ℕ) (o : List ℕ) : Type 0 where

@@ -5,9 +5,11 @@ use mathlib.Core.List.{List, [], ◌∷◌, ◌++◌, map, map-append, flatten, 
 use Prim.Native.Nat.{ℕ, zero, suc, ◌+◌, ◌-◌, ◌*◌, ◌≤◌, ◌<◌}
 use native.Mathlib.Numerals.{add-one}
 use native.Mathlib.Omega.{arith}
-use lib.ListN.{length, take, drop, length-append}
-use lib.Seq.{take-suc, take_at, drop_at, drop-drop}
-use borrow.Rule.Slice.PartMut.{put_mid}
+use lib.ListN.{length, take, drop, length-append, length-drop}
+use lib.Seq.{sets-eq, take-suc, take_at, drop_at, drop-drop}
+use borrow.Rule.Slice.PartMut.{put_mid, Post-is}
+use Rattle.bits.specs.Writing.{Writes}
+use Rattle.bits.proofs.WritingLaws.{writes_front}
 use Rattle.bits.proofs.ListLaws.{flatten_append, part_from, after_part}
 use Rattle.rules.specs.Table.{record_size, rule_count, record_at}
 use Rattle.rules.proofs.TableLaws.{length_record}
@@ -52,8 +54,37 @@ module _ (table order : List ℕ) (O : Order (rule_count table) order) where
 -- ---- one record more
 
 -- what stands after a record was put through the part that starts at a: A is what was written before, r the record, and d what stood there at first
-pub put_one : (A r d o : List ℕ) (a : ℕ) → o ≡ A ++ drop a d → length A ≡ a → length r ≡ record_size
-    → put_mid a (length o - a) o (r ++ drop (length r) (take (length o - a) (drop a o))) ≡ (A ++ r) ++ drop (a + record_size) d
-put_one A r d o a ho hA hr =
-    rw (part_from a o, after_part a o, ho, take_at A (drop a d) a hA, drop_at A (drop a d) a hA, hr, drop-drop record_size a d, append-nil)
+pub put_one : (A r d o : List ℕ) (a : ℕ) → o ≡ A ++ drop a d → length A ≡ a
+    → put_mid a (length o - a) o (r ++ drop record_size (take (length o - a) (drop a o))) ≡ (A ++ r) ++ drop (a + record_size) d
+put_one A r d o a ho hA =
+    rw (part_from a o, after_part a o, ho, take_at A (drop a d) a hA, drop_at A (drop a d) a hA, drop-drop record_size a d, append-nil)
     (sym (append_assoc A r (drop (a + record_size) d)))
+
+-- ---- numbers written through a part
+
+-- a part as long as what is copied into it
+pub writes_copied : (list words : List ℕ) (at next : ℕ) → next ≡ at + length words → next ≤ length list → Writes list at words (put_mid at (next - at) list words) next
+writes_copied list words at next ends room = record {
+  written =
+      ap (λ (l : List ℕ). take at list ++ (words ++ l)) (Post-is at next list (omega (arith, ends)) ∙ ap (λ (k : ℕ). drop k list) ends)
+      ∙ sym (append_assoc (take at list) words (drop (at + length words) list))
+      ∙ sym (sets-eq words list at (omega (arith, ends)));
+  ends = ends;
+}
+
+-- the part from an entry on, in which they stand at the front
+pub writes_within : (list words after : List ℕ) (at n : ℕ) → at + length words ≤ length list
+    → Writes (take (length list - at) (drop at list)) 0 words after n → Writes list at words (put_mid at (length list - at) list after) (at + n)
+writes_within list words after at n room w =
+    let v : Writes (drop at list) 0 words after n = rw (part_from at list) at w in
+    let front : after ≡ words ++ drop (at + length words) list =
+    writes_front (rw length-drop (omega arith)) v ∙ ap (λ (l : List ℕ). words ++ l) (drop-drop (length words) at list)
+    in
+    record {
+      written =
+          (λ i. take at list ++ (front i ++ after_part at list i))
+          ∙ ap (λ (l : List ℕ). take at list ++ l) (append-nil (words ++ drop (at + length words) list))
+          ∙ sym (append_assoc (take at list) words (drop (at + length words) list))
+          ∙ sym (sets-eq words list at room);
+      ends = omega (arith, w.ends);
+    }

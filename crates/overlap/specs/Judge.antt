@@ -1,8 +1,9 @@
 -- The judgement of a move: which pair forbids it, and what it is that no allowed move may change.
 -- Assumes nothing.
 use Rattle.std.specs.Prelude.{◌≡◌, Bool, not, ◌&&◌, List, ℕ, ltb, length}
-use Rattle.std.proofs.Math.Option.{Option, none, map}
-use Rattle.rules.specs.declared.Decoded.{Decoded}
+use Rattle.std.specs.Prelude.{Option, None}
+use Rattle.std.specs.Option.{option_map}
+use Rattle.rules.specs.declared.Action.{Action}
 use Rattle.rules.specs.Rule.{Rule}
 use Rattle.rules.specs.Action.{same_action}
 use Rattle.rules.specs.Match.{rule_at, first_match}
@@ -24,8 +25,8 @@ crossing rules order = first_of (overtaken rules order) (triangle 0 (length rule
 
 -- a move is allowed where there is no such pair; otherwise 13: "move not allowed"
 abbrev pub Allowed : List Rule → List ℕ → Type 0
-Allowed rules order = crossing rules order ≡ none
+Allowed rules order = crossing rules order ≡ None
 
 -- the action that a header gets, that of the first rule that matches it; or none
-unfoldable pub answer_of : List Rule → List ℕ → Option Decoded
-answer_of rules header = map (λ place. (rule_at rules place).action) (first_match rules header)
+unfoldable pub answer_of : List Rule → List ℕ → Option (Option Action)
+answer_of rules header = option_map (λ place. (rule_at rules place).action) (first_match rules header)

@@ -2,14 +2,12 @@
 -- What is told of a pair is its places and then the values of its lowest shared header; nothing where there is none.
 -- Assumes nothing.
 use Rattle.std.specs.Prelude.{Bool, ◌&&◌, List, [], ◌∷◌, ℕ, ltb, get_or}
-use Rattle.std.proofs.Math.Option.{Option, none, some}
+use Rattle.std.specs.Prelude.{Option, None, Some}
 use Rattle.rules.specs.declared.Crossing.{Crossing}
 use Rattle.rules.specs.Refusal.{values}
 use Rattle.rules.specs.Rule.{Rule}
 use Rattle.rules.specs.Match.{rule_at}
 use Rattle.rules.specs.Overlap.{lowest_shared}
-use Rattle.overlap.specs.declared.judge.Obstacle.{Obstacle}
-use Rattle.overlap.specs.declared.judge.Obstacle.TheVariants.{Crossed, Nothing}
 use Rattle.overlap.specs.Pairs.{Pair, first_of}
 use Rattle.overlap.specs.Judge.{clashes}
 
@@ -21,8 +19,8 @@ unfoldable pub pair_told : List Rule → ℕ → ℕ → List ℕ
 pair_told rules i j = i ∷ j ∷ lowest_shared (rule_at rules i) (rule_at rules j)
 
 unfoldable pub found_told : List Rule → Option Pair → List ℕ
-found_told rules none = []
-found_told rules (some p) = pair_told rules p.lower p.higher
+found_told rules None = []
+found_told rules (Some p) = pair_told rules p.lower p.higher
 
 -- of the first of some pairs that is overtaken
 unfoldable pub first_told : List Rule → List ℕ → List Pair → List ℕ
@@ -32,6 +30,6 @@ first_told rules places pairs = found_told rules (first_of (λ p. overtaken_by r
 unfoldable pub crossing_told : Crossing → List ℕ
 crossing_told c = c.lower ∷ c.higher ∷ values c.header
 
-unfoldable pub obstacle_told : Obstacle → List ℕ
-obstacle_told Nothing = []
-obstacle_told (Crossed c) = crossing_told c
+unfoldable pub obstacle_told : Option Crossing → List ℕ
+obstacle_told None = []
+obstacle_told (Some c) = crossing_told c

@@ -2,7 +2,7 @@
 -- Assumes nothing.
 use Rattle.std.specs.Prelude.{Bool, true, not, ◌&&◌, ℕ, eqb, ltb, length, get_or}
 use mathlib.Core.List.{List, [], ◌∷◌, map, flatten}
-use Rattle.std.proofs.Math.Option
+use Rattle.std.specs.Option.{unwrap_or}
 use Rattle.bits.specs.Tests.{any, up_from, lowest}
 use Rattle.rules.specs.Rule.{Rule}
 use Rattle.rules.specs.Match.{rule_at}
@@ -27,7 +27,7 @@ old_place order k = get_or order k 0
 
 -- the new place of what stood at old place i; the order's length where i is not in it
 unfoldable pub new_place : List ℕ → ℕ → ℕ
-new_place order i = Option.get_or (lowest (λ k. eqb (old_place order k) i) (length order)) (length order)
+new_place order i = unwrap_or (lowest (λ k. eqb (old_place order k) i) (length order)) (length order)
 
 -- the rules in their new order
 unfoldable pub moved : List Rule → List ℕ → List Rule

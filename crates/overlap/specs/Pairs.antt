@@ -1,7 +1,7 @@
 -- Pairs of places, and the list of pairs (01: "Pairs and moves").
 -- Assumes nothing.
 use Rattle.std.specs.Prelude.{Bool, true, false, not, ◌&&◌, List, [], ◌∷◌, ◌++◌, ℕ, zero, suc, length}
-use Rattle.std.proofs.Math.Option.{Option, none, some}
+use Rattle.std.specs.Prelude.{Option, None, Some}
 use Rattle.rules.specs.Rule.{Rule}
 use Rattle.rules.specs.Match.{rule_at}
 use Rattle.rules.specs.Overlap.{share, covers}
@@ -29,8 +29,8 @@ module _ {A : Type 0} where
 
   -- the first of a list that passes a test
   unfoldable pub first_of : (A → Bool) → List A → Option A
-  first_of test [] = none
-  first_of test (x ∷ xs) = elim (test x) [ true ↦ some x | false ↦ first_of test xs ]
+  first_of test [] = None
+  first_of test (x ∷ xs) = elim (test x) [ true ↦ Some x | false ↦ first_of test xs ]
 
 -- "A listed pair shares a header and neither covers the other, whatever the actions."
 unfoldable pub listed : Rule → Rule → Bool

@@ -1,6 +1,6 @@
--- The steps of the code: one row of pairs, and what a checked order leaves.
+-- The steps of the code: one row of pairs, and the table that a checked order leaves.
 -- Assumes nothing.
-use Rattle.std.specs.Prelude.{◌≡◌, Bool, true, List, ℕ, ◌+◌, ◌-◌, ◌<◌, get_or}
+use Rattle.std.specs.Prelude.{◌≡◌, true, List, ℕ, ◌+◌, ◌-◌, ◌<◌, get_or}
 use Rattle.rules.specs.Table.{rule_count, rules_of}
 use Rattle.overlap.specs.Pairs.{Pair, row, triangle, keep, listed, on_pair}
 use Rattle.overlap.specs.Order.{is_order, new_place}
@@ -17,7 +17,7 @@ listed_with table i = listed_row table i (i + 1) (rule_count table - (i + 1))
 abbrev pub listed_from : List ℕ → ℕ → List Pair
 listed_from table i = keep (on_pair listed (rules_of table)) (triangle i (rule_count table - i))
 
--- what checking an order leaves: whether it is one, and if it is, the new place of each old one
-pub record Inverts (rules : ℕ) (order : List ℕ) (valid : Bool) (places : List ℕ) : Type 0 where
-  pub exact : valid ≡ is_order rules order
-  pub new : is_order rules order ≡ true → (i : ℕ) → i < rules → get_or places i 0 ≡ new_place order i
+-- a table holds the new place of each old one of an order
+pub record Inverts (rules : ℕ) (order : List ℕ) (places : List ℕ) : Type 0 where
+  pub valid : is_order rules order ≡ true
+  pub new : (i : ℕ) → i < rules → get_or places i 0 ≡ new_place order i

@@ -1,82 +1,58 @@
 // The judgement of a move: the first pair of rules that changes order, shares a header and differs in action.
-ghost use Rattle.std.specs.Prelude.{◌≡◌, true, List, ℕ, ◌+◌, ◌-◌, ◌≤◌, ◌<◌, length};
+ghost use Rattle.std.specs.Prelude.{◌≡◌, List, ℕ, ◌+◌, ◌-◌, ◌≤◌, ◌<◌, length};
 ghost use Rattle.rules.specs.Rule.{rule_of};
-ghost use Rattle.rules.specs.Table.{rule_count, rules_of, Accepted, SoundRule};
+ghost use Rattle.rules.specs.Table.{rule_count, rules_of};
 ghost use Rattle.overlap.specs.Pairs.{row};
 ghost use Rattle.overlap.specs.Judge.{clashes, crossing};
 ghost use Rattle.overlap.specs.Steps.{Inverts};
 ghost use Rattle.overlap.specs.Obstacle.{overtaken_by, pair_told, found_told, first_told, crossing_told, obstacle_told};
 
-use crate::compare::rule_at;
-use crate::{Inverse, lowest_shared, same_action, shares};
-use rules::{Crossing, RECORD_BYTES};
-
-// What stands in the way of a move.
-#[derive(Clone, Copy)]
-pub enum Obstacle {
-    Crossed(Crossing),
-    Nothing,
-}
+use crate::{lowest_shared, same_action, shares};
+use rules::{Crossing, MOST_RULES, Record, Table};
 
 // Whether two rules share a header and differ in action.
-fn clash(a: &[u8], b: &[u8]) -> bool
-    requires { SoundRule a.now × SoundRule b.now }
-    ensures { result ≡ clashes (rule_of a.now) (rule_of b.now) }
+fn clash(a: Record<'_>, b: Record<'_>) -> bool
+    ensures { result ≡ clashes (rule_of a.entry.bytes.now) (rule_of b.entry.bytes.now) }
 {
-    if !shares(a, b) {
-        return false;
-    }
-    !same_action(a, b)
+    shares(a, b) && !same_action(a, b)
 }
 
+// Table and places stay two parameters here: a struct of both would only be taken apart again.
 // Whether two rules change order and clash; those that keep their order are not compared.
-fn is_overtaken(table: &[u8], places: &[u16], lower: usize, higher: usize) -> bool
-    requires { Accepted table.now × (rule_count table.now ≤ length places.now) × (lower < rule_count table.now) × (higher < rule_count table.now) }
-    ensures { result ≡ overtaken_by (rules_of table.now) places.now lower higher }
+fn is_overtaken(table: Table<'_>, places: &[u16], lower: usize, higher: usize) -> bool
+    requires { (rule_count table.bytes.now ≤ length places.now) × (lower < rule_count table.bytes.now) × (higher < rule_count table.bytes.now) }
+    ensures { result ≡ overtaken_by (rules_of table.entry.bytes.now) places.now lower higher }
 {
-    if places[lower] <= places[higher] {
-        return false;
-    }
-    clash(rule_at(table, lower), rule_at(table, higher))
+    places[higher] < places[lower] && clash(table.record(lower), table.record(higher))
 }
 
 // The pair of two places with its lowest shared header, as refusal 13 names it.
-fn crossing_at(table: &[u8], lower: usize, higher: usize) -> Crossing
-    requires { Accepted table.now × (lower < rule_count table.now) × (higher < rule_count table.now) }
-    ensures { crossing_told result ≡ pair_told (rules_of table.now) lower higher }
+fn crossing_at(table: Table<'_>, lower: usize, higher: usize) -> Crossing
+    requires { (lower < rule_count table.bytes.now) × (higher < rule_count table.bytes.now) }
+    ensures { crossing_told result ≡ pair_told (rules_of table.entry.bytes.now) lower higher }
 {
+    let header = lowest_shared(table.record(lower).bytes, table.record(higher).bytes);
     Crossing {
         lower,
         higher,
-        header: lowest_shared(rule_at(table, lower), rule_at(table, higher)),
+        header,
     }
 }
 
 // The first pair of a place with a higher one that stands in the way.
-fn first_in_row(table: &[u8], places: &[u16], lower: usize) -> Obstacle
-    requires { Accepted table.now × (rule_count table.now ≤ length places.now) × (lower < rule_count table.now) }
-    ensures { obstacle_told result ≡ first_told (rules_of table.now) places.now (row lower (lower + 1) (rule_count table.now - (lower + 1))) }
+fn first_in_row(table: Table<'_>, places: &[u16], lower: usize) -> Option<Crossing>
+    requires { (rule_count table.bytes.now ≤ length places.now) × (lower < rule_count table.bytes.now) }
+    ensures { obstacle_told result ≡ first_told (rules_of table.entry.bytes.now) places.now (row lower (lower + 1) (rule_count table.entry.bytes.now - (lower + 1))) }
 {
-    for higher in lower + 1..table.len() / RECORD_BYTES {
-        if is_overtaken(table, places, lower, higher) {
-            return Obstacle::Crossed(crossing_at(table, lower, higher));
-        }
-    }
-    Obstacle::Nothing
+    let higher = (lower + 1..table.len()).find(|at| is_overtaken(table, places, lower, *at))?;
+    Some(crossing_at(table, lower, higher))
 }
 
 // "the first pair by old places (lower, then higher) that changes order, shares a header and differs in action",
 // for the order that was checked.
-pub fn first_crossing(table: &[u8], inverse: Inverse) -> Obstacle
-    requires { Accepted table.now × (inverse.valid ≡ true) }
-    ensures { (order : List ℕ) → Inverts (rule_count table.now) order inverse.valid inverse.places
-        → obstacle_told result ≡ found_told (rules_of table.now) (crossing (rules_of table.now) order) }
+pub fn first_crossing(table: Table<'_>, places: &[u16; MOST_RULES]) -> Option<Crossing>
+    ensures { (order : List ℕ) → Inverts (rule_count table.entry.bytes.now) order places.now
+        → obstacle_told result ≡ found_told (rules_of table.entry.bytes.now) (crossing (rules_of table.entry.bytes.now) order) }
 {
-    let places = inverse.places;
-    for lower in 0..table.len() / RECORD_BYTES {
-        if let Obstacle::Crossed(crossing) = first_in_row(table, &places, lower) {
-            return Obstacle::Crossed(crossing);
-        }
-    }
-    Obstacle::Nothing
+    (0..table.len()).find_map(|lower| first_in_row(table, places, lower))
 }

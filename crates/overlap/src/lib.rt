@@ -8,7 +8,7 @@ mod orders;
 mod pairs;
 
 pub use compare::{covers, lowest_shared, same_action, shares};
-pub use judge::{Obstacle, first_crossing};
+pub use judge::first_crossing;
 pub use moves::write_moved;
-pub use orders::{Inverse, check_order};
+pub use orders::check_order;
 pub use pairs::{count_pairs, write_pairs};

@@ -1,5 +1,6 @@
 -- The program's text: what is held stands for the whole, one line more, and the ways in which the program ends.
 -- Assumes nothing.
+use Rattle.std.specs.Prelude.{Result, Ok, Err}
 use mathlib.Core.Path.{◌≡◌, refl, sym, ap, subst, ◌∙◌}
 use mathlib.Core.Logic.{⊎_elim}
 use mathlib.Core.Bool.{cond}
@@ -9,26 +10,27 @@ use native.Mathlib.Nat.{zero-add}
 use native.Mathlib.Numerals.{add-one}
 use native.Mathlib.Omega.{arith}
 use lib.Dec.{ltb}
-use lib.ListN.{length, take, drop, replicate, length-drop, length-replicate}
+use lib.ListN.{length, get_or, take, drop, replicate, length-drop, length-replicate}
 use lib.Seq.{take_all, length-take-le}
 use borrow.Author.Tests.{lt-ltb, le-ltb, eq-eqb, ne_eqb}
-use Rattle.io.specs.Counts.{IsPrefixLen}
+use Rattle.std.specs.List.{slice_range}
+use Rattle.std.specs.Simd.{first_chunks}
+use Rattle.bits.specs.Writing.{Writes}
 use Rattle.bits.specs.Number.{Bytes}
 use Rattle.bits.specs.Tests.{up_from}
 use Rattle.bits.proofs.ListLaws.{alike, flatten_append}
 use Rattle.bits.proofs.NumberLaws.{part_bytes}
 use Rattle.bits.proofs.EachLaws.{up_snoc}
+use Rattle.rules.proofs.RecordLaws.{chunk_at}
 use Rattle.rules.specs.declared.Refusal.{Refusal}
 use Rattle.rules.specs.declared.Refusal.TheVariants.{NotAHeader}
-use Rattle.rules.specs.Refusal.{said, first_refusal}
+use Rattle.rules.specs.Refusal.{told, said, first_refusal}
 use Rattle.rules.specs.Header.{header_size}
 use Rattle.rules.specs.Table.{record_size, most_rules, verdict}
 use Rattle.rules.proofs.SaidLaws.{numbered}
 use Rattle.lookup.specs.Answer.{answer_said}
 use Rattle.lookup.specs.Look.{look_said}
 use Rattle.lookup.proofs.Demand2.{look_answer}
-use Rattle.desk.specs.declared.Built.{Built}
-use Rattle.desk.specs.declared.Built.TheVariants.{Done, Refused}
 use Rattle.desk.specs.Lent.{room_said}
 use Rattle.desk.specs.BuildCall.{built_said, words_needed, build_said, area_left, Builds}
 use Rattle.desk.proofs.LentLaws.{lent_refused}
@@ -38,15 +40,16 @@ use Rattle.ruledesk.specs.Lines.{refused_text, answer_text, line}
 use Rattle.ruledesk.specs.Program.{area_words, fresh_area, most_input, header_in, first_lines, bad_length, input_text, text_after, program_text, Holds, Reports}
 use Rattle.ruledesk.proofs.TextLaws.{text_same, puts_both}
 
--- as the kit's library says that a number counts bytes at the front
-pub counted : (n : ℕ) (l : List ℕ) → n ≤ length l → IsPrefixLen n l
-counted n l h = (h, sym (length-take-le n l h))
-
 -- ---- what is held
 
 -- bytes for which there is room are held whole
 pub holds_whole : {bytes room : List ℕ} {whole : ℕ} → Holds bytes room whole → whole ≤ length room → bytes ≡ take whole room
 holds_whole {bytes} {room} h fits = sym (take_all (length room) bytes (omega (arith, h.size))) ∙ h.front
+
+pub held_part : {bytes room part : List ℕ} {whole : ℕ} → Holds bytes room whole → whole ≤ length room → part ≡ slice_range room 0 whole → bytes ≡ part
+held_part {room = room} {whole = whole} h fits same =
+    let all : whole - 0 ≡ whole = omega arith in
+    holds_whole h fits ∙ sym (same ∙ ap (λ (n : ℕ). take n room) all)
 
 -- the same file by another name
 pub report_same : {table other input area out : List ℕ} {next : ℕ} {after left : List ℕ} → table ≡ other
@@ -91,10 +94,10 @@ lines_agree says other input (suc n) same =
     ∙ sym (lines_more other input n)
     ∙ ap (first_lines other input) (sym one)
 
--- a header as a part of the input
-pub header_part : (input : List ℕ) (k : ℕ) → take ((k * header_size + header_size) - k * header_size) (drop (k * header_size) input) ≡ header_in input k
+-- a chunk of the input is a header
+pub header_chunk : (input : List ℕ) (k n : ℕ) → n < k → get_or (first_chunks header_size k input) n [] ≡ header_in input n
 unfolding header_in
-header_part input k = let size : (k * header_size + header_size) - k * header_size ≡ header_size = omega arith in ap (λ (n : ℕ). take n (drop (k * header_size) input)) size
+header_chunk input k n h = chunk_at header_size k n input h
 
 header_whole : (input : List ℕ) (k : ℕ) → k < length input / header_size → length (header_in input k) ≡ header_size
 unfolding header_in
@@ -118,12 +121,6 @@ module _ (says : List ℕ → List ℕ) (input : List ℕ) where
   pub input_lines : length input ≤ most_input → length input % header_size ≡ 0 → first_lines says input (length input / header_size) ≡ input_text says input
   unfolding input_text bad_length
   input_lines h e = rw (le-ltb most_input (length input) h, eq-eqb (length input % header_size) 0 e) refl
-
--- the first bytes of an input for which there is room
-pub held_lines : (says : List ℕ → List ℕ) (input first : List ℕ) (whole : ℕ) → Holds input first whole → whole ≤ most_input → most_input ≤ length first → whole % header_size ≡ 0
-    → first_lines says (take whole first) (length (take whole first) / header_size) ≡ input_text says input
-held_lines says input first whole h few room even =
-    rw (← holds_whole h (omega arith)) (input_lines says input (omega (arith, h.size)) (omega (arith, h.size)))
 
 pub input_agree : (says other : List ℕ → List ℕ) (input : List ℕ) → Bytes input
     → ((header : List ℕ) → Bytes header → length header ≡ header_size → says header ≡ other header) → input_text says input ≡ input_text other input
@@ -154,19 +151,20 @@ module _ (table input area : List ℕ) (size : length area ≡ area_words) where
       ap (λ (l : List ℕ). line (refused_text l)) (numbered r).2
       ∙ text_from (suc (numbered r).0 ∷ (numbered r).1) (sym (numbered r).2 ∙ e)
 
-  module _ {o : Built} {after : List ℕ} (built : Builds table area o after) where
-    pub text_refused : {r : Refusal} → o ≡ Refused r → line (refused_text (said r)) ≡ program_text table input
-    unfolding built_said
-    text_refused {r} e = text_said r (ap built_said (sym e) ∙ built.answer)
+  module _ {o : Result ℕ Refusal} {left : List ℕ} (built : Builds table area o left) {out after : List ℕ} {next : ℕ} where
+    pub reports_refused : {r : Refusal} → o ≡ Err r → Writes out 0 (line (refused_text (said r))) after next → Reports table input area out next after left
+    unfolding told
+    reports_refused {r} e w = record { text = text_same (text_said r (ap built_said (sym e) ∙ built.answer)) w; lent = built.lent }
 
     -- a build that is done: what the steps over its area say is what the rules say
-    pub text_done : {words : ℕ} → o ≡ Done words → Bytes table → Bytes input → input_text (look_said table after) input ≡ program_text table input
-    unfolding text_after built_said
-    text_done {words} e bytes each =
-        let held = built_image (subst (λ (r : Built). Builds table area r after) e built) in
-        input_agree (look_said table after) (answer_said table) input each
-        (λ header b right. look_answer table bytes held.0 header b right after held.1)
-        ∙ text_from (0 ∷ words ∷ []) (ap built_said (sym e) ∙ built.answer)
+    pub reports_done : {words : ℕ} → o ≡ Ok words → Bytes table → Bytes input → Writes out 0 (input_text (look_said table left) input) after next
+        → Reports table input area out next after left
+    unfolding text_after told
+    reports_done {words} e bytes each w =
+        let held = built_image (subst (λ (r : Result ℕ Refusal). Builds table area r left) e built) in
+        let text = input_agree (look_said table left) (answer_said table) input each (λ header b right. look_answer table bytes held.0 header b right left held.1)
+        ∙ text_from (0 ∷ words ∷ []) (ap built_said (sym e) ∙ built.answer) in
+        record { text = text_same text w; lent = built.lent }
 
 pub left_refused : (table area : List ℕ) (r : Refusal) → said r ≡ build_said table area → area ≡ area_left table area
 unfolding area_left

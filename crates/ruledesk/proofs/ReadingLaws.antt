@@ -1,27 +1,24 @@
 -- What is held stays where the room changes behind it, and what comes goes on from it, kept or only counted.
 -- Assumes nothing.
-use mathlib.Core.Path.{◌≡◌, refl, sym, ap, ◌∙◌}
+use mathlib.Core.Path.{◌≡◌, sym, ap, ◌∙◌}
 use mathlib.Core.Logic.{⊎_elim}
-use mathlib.Core.Bool.{true, false}
 use mathlib.Core.List.{List, [], ◌++◌, append-nil}
-use Prim.Native.Nat.{ℕ, ◌+◌, ◌-◌, ◌^◌, ◌≤◌, ◌<◌, min}
+use Prim.Native.Nat.{ℕ, ◌+◌, ◌-◌, ◌^◌, ◌≤◌, ◌<◌}
 use native.Mathlib.Nat.{add-zero}
 use native.Mathlib.Omega.{arith}
-use lib.IntN.{ℤ, pos, negsuc}
 use lib.ListN.{length, take, drop, length-append, length-drop, drop_of_length-le}
-use lib.Seq.{take-nil, take_all, take-append-add, take-append-le, length-take-le}
-use lib.Signed.{lt_z}
+use lib.Seq.{take_all, take-append-add, take-append-le, length-take-le}
 use borrow.Rule.Slice.PartMut.{put_mid}
 use borrow.Author.Tests.{lt-ltb, le-ltb, eq-eqb, ne_eqb}
+use Rattle.std.specs.Prelude.{Some, None, Result, Ok, Err}
+use Rattle.std.specs.Io.{ReadsAtMost}
+use Rattle.std.specs.declared.io.Error.{Error}
 use Rattle.bits.specs.Number.{Bytes}
 use Rattle.bits.proofs.TestLaws.{less}
 use Rattle.bits.proofs.ListLaws.{alike}
 use Rattle.bits.proofs.NumberLaws.{bytes_append, part_bytes}
-use Rattle.io.specs.Counts.{clamp_len}
-use Rattle.ruledesk.specs.declared.read.Got.{Got}
-use Rattle.ruledesk.specs.declared.read.Got.TheVariants.{More, End, Failure}
 use Rattle.ruledesk.specs.Program.{Holds}
-use Rattle.ruledesk.specs.Reading.{lengthened, counted_in, ReadInto, Adds, Reads, Came}
+use Rattle.ruledesk.specs.Reading.{Got, lengthened, counted_in, ReadInto, Adds, Reads, Came}
 use Rattle.ruledesk.proofs.ProgramLaws.{holds_whole}
 
 -- ---- what is held
@@ -67,27 +64,18 @@ put_rest room part from =
 -- ---- the length after a read
 
 module _ (whole count : ℕ) where
-  pub lengthened_none : count ≡ 0 → End ≡ lengthened whole count
+  pub lengthened_none : count ≡ 0 → lengthened whole count ≡ Ok None
   unfolding lengthened
   lengthened_none none = rw (eq-eqb count 0 none)
 
   module _ (some : count ≡ 0 → ⊥) where
-    pub lengthened_more : whole + count < 2 ^ 64 → More (whole + count) ≡ lengthened whole count
+    pub lengthened_more : whole + count < 2 ^ 64 → lengthened whole count ≡ Ok (Some (whole + count))
     unfolding lengthened
     lengthened_more small = rw (ne_eqb count 0 some, lt-ltb (whole + count) (2 ^ 64) small)
 
-    pub lengthened_large : 2 ^ 64 ≤ whole + count → Failure ≡ lengthened whole count
+    pub lengthened_large : 2 ^ 64 ≤ whole + count → lengthened whole count ≡ Err (record {})
     unfolding lengthened
     lengthened_large large = rw (ne_eqb count 0 some, le-ltb (whole + count) (2 ^ 64) large)
-
-module _ (whole : ℕ) (answer : ℤ) (most : ℕ) where
-  pub counted_failure : lt_z answer (pos 0) ≡ true → Failure ≡ counted_in whole answer most
-  unfolding counted_in
-  counted_failure below = rw below
-
-  pub counted_length : lt_z answer (pos 0) ≡ false → {count : ℕ} → count ≡ clamp_len answer most → lengthened whole count ≡ counted_in whole answer most
-  unfolding counted_in
-  counted_length above e = rw (above, e)
 
 -- ---- one read
 
@@ -99,28 +87,28 @@ module _ {whole : ℕ} {part : List ℕ} {got : Got} (into : ReadInto whole part
     reads_lengthened count few =
         let size : length (take count part) ≡ count = length-take-le count part few in
         ⊎_elim
-        (λ (none : count ≡ 0). rw (← lengthened_none whole count none) (λ bytes h. rw (append-nil, add-zero) at (goes_on bytes h 0 (omega arith))))
+        (λ (none : count ≡ 0). rw (lengthened_none whole count none) (λ bytes h. rw (append-nil, add-zero) at (goes_on bytes h 0 (omega arith))))
         (λ (some : count ≡ 0 → ⊥).
         ⊎_elim
         (λ (small : whole + count < 2 ^ 64).
-        rw (← lengthened_more whole count some small) record {
+        rw (lengthened_more whole count some small) record {
           piece = take count part;
           some = omega (arith, size);
           sum = omega (arith, size);
           behind = λ bytes h. goes_on bytes h count few;
         })
-        (λ (large : 2 ^ 64 ≤ whole + count). rw (← lengthened_large whole count some large) tt)
+        (λ (large : 2 ^ 64 ≤ whole + count). rw (lengthened_large whole count some large) tt)
         (less (whole + count) (2 ^ 64)))
         (alike count 0)
 
     -- whatever was answered
-    reads_counted : (answer : ℤ) → Reads before whole after (counted_in whole answer (length part))
+    reads_counted : (answer : Result ℕ Error) → ReadsAtMost answer part → Reads before whole after (counted_in whole answer)
     unfolding Reads counted_in
-    reads_counted (pos n) = rw (le-ltb n 0 (omega arith)) (reads_lengthened (min n (length part)) (omega arith))
-    reads_counted (negsuc n) = tt
+    reads_counted (Ok count) few = reads_lengthened count few.0
+    reads_counted (Err e) few = tt
 
     reads_into : Reads before whole after got
-    reads_into = rw into.counted (reads_counted into.answer)
+    reads_into = rw into.counted (reads_counted into.answer into.few)
 
   module _ (room : List ℕ) where
     -- into a part behind what is held
@@ -133,17 +121,9 @@ module _ {whole : ℕ} {part : List ℕ} {got : Got} (into : ReadInto whole part
 
 -- ---- all reads
 
-pub came_none : (room : List ℕ) → Came room 0
-came_none room = record { bytes = []; held = record { each = λ k. omega arith; size = refl; front = take-nil (length room) } }
-
-module _ {before after : List ℕ} {whole : ℕ} {got : Got} (read : Reads before whole after got) where
-  pub reads_more : {next : ℕ} → got ≡ More next → Adds before whole after next
-  unfolding Reads
-  reads_more e = rw e at read
-
-  pub came_end : got ≡ End → Came before whole → Came after whole
-  unfolding Reads
-  came_end e c = record { bytes = c.bytes; held = (rw e at read) c.bytes c.held }
+pub came_end : {before after : List ℕ} {whole : ℕ} → Reads before whole after (Ok None) → Came before whole → Came after whole
+unfolding Reads
+came_end read c = record { bytes = c.bytes; held = read c.bytes c.held }
 
 pub came_more : {before after : List ℕ} {whole next : ℕ} → Adds before whole after next → Came before whole → Came after next
 came_more a c = record { bytes = c.bytes ++ a.piece; held = a.behind c.bytes c.held }

@@ -1,51 +1,60 @@
--- Text written byte by byte.
+-- Text that a line gains, and text that is put into a buffer.
 -- Assumes nothing.
 use mathlib.Core.Path.{◌≡◌, sym, ap, subst, ◌∙◌}
-use mathlib.Core.List.{List, [], ◌∷◌, ◌++◌}
-use Prim.Native.Nat.{ℕ, ◌+◌, ◌≤◌, ◌<◌}
-use native.Mathlib.Nat.{add-zero, add_assoc}
-use native.Mathlib.Numerals.{add-one}
+use mathlib.Core.List.{List, [], ◌++◌, append-nil, append_assoc}
+use Prim.Native.Nat.{ℕ, ◌+◌, ◌-◌, ◌≤◌}
 use native.Mathlib.Omega.{arith}
-use lib.ListN.{length, take, get_or, set}
-use lib.Seq.{take-suc, take_all}
+use lib.ListN.{length, take, drop, length-append}
+use lib.Seq.{sets-eq, drop-drop}
+use borrow.Rule.Slice.PartMut.{put_mid}
 use Rattle.bits.specs.Writing.{Writes}
-use Rattle.bits.proofs.WritingLaws.{writes_nothing, writes_one, writes_both}
-use Rattle.ruledesk.specs.InCode.{Puts}
+use Rattle.bits.proofs.WritingLaws.{writes_both}
+use Rattle.ruledesk.specs.InCode.{Gains, Puts}
 
--- the first i bytes of a text are written
-module _ {out : List ℕ} {at : ℕ} (text : List ℕ) (i : ℕ) {mid : List ℕ} where
-  pub text_more : i < length text → Writes out at (take i text) mid (at + i) → Writes out at (take (i + 1) text) (set mid (at + i) (get_or text i 0)) (at + (i + 1))
-  text_more h w =
-      let more : take i text ++ (get_or text i 0 ∷ []) ≡ take (i + 1) text = sym (ap (λ (n : ℕ). take n text) (add-one i) ∙ take-suc text i 0 h) in
-      subst (λ (t : List ℕ). Writes out at t (set mid (at + i) (get_or text i 0)) (at + (i + 1))) more
-      (subst (λ (n : ℕ). Writes out at (take i text ++ (get_or text i 0 ∷ [])) (set mid (at + i) (get_or text i 0)) n) (add_assoc at i 1)
-      (writes_both w (writes_one mid (at + i) (get_or text i 0))))
+-- ---- at the end of a line
 
-  pub text_whole : i ≡ length text → Writes out at (take i text) mid (at + i) → Writes out at text mid (at + length text)
-  text_whole e w =
-      subst (λ (t : List ℕ). Writes out at t mid (at + length text)) (take_all (length text) text (omega arith))
-      (subst (λ (n : ℕ). Writes out at (take n text) mid (at + n)) e w)
+pub gains_text : (before text : List ℕ) {after : List ℕ} → after ≡ before ++ text → Gains (length text) before text after
+gains_text before text e = record { behind = e; few = omega arith }
 
-pub text_start : (out : List ℕ) (at : ℕ) → Writes out at [] out (at + 0)
-text_start out at = subst (λ (n : ℕ). Writes out at [] out n) (sym (add-zero at)) (writes_nothing out at)
+pub gains_nothing : (before : List ℕ) → Gains 0 before [] before
+gains_nothing before = record { behind = sym (append-nil before); few = omega arith }
+
+-- one text after another
+pub gains_both : (j k : ℕ) {before first mid second after : List ℕ}
+    → Gains j before first mid → Gains k mid second after → Gains (j + k) before (first ++ second) after
+gains_both j k {before} {first} {second = second} v w = record {
+  behind = w.behind ∙ ap (λ (l : List ℕ). l ++ second) v.behind ∙ append_assoc before first second;
+  few = omega (arith, v.few, w.few, length-append first second);
+}
+
+-- there is room for more
+pub gains_within : (k most : ℕ) {before text after : List ℕ} → k ≤ most → Gains k before text after → Gains most before text after
+gains_within k most h w = record { behind = w.behind; few = omega (arith, w.few) }
+
+-- an empty line has then that text alone
+pub gains_alone : (most : ℕ) {before text after : List ℕ} → before ≡ [] → Gains most before text after → after ≡ text
+gains_alone most {text = text} none w = w.behind ∙ ap (λ (l : List ℕ). l ++ text) none
+
+-- ---- from a byte on
+
+-- a text that a part of the buffer now is
+pub writes_part : (out : List ℕ) (at count : ℕ) (text : List ℕ) {part : List ℕ} → part ≡ text → count ≡ length text → at + count ≤ length out
+    → Writes out at text (put_mid at ((at + count) - at) out part) (at + count)
+writes_part out at count text same size room =
+    let whole : (at + count) - at ≡ count = omega arith in record {
+      written =
+          rw (same, whole)
+          (ap (λ (rest : List ℕ). take at out ++ (text ++ rest)) (drop-drop count at out ∙ ap (λ (n : ℕ). drop (at + n) out) size)
+          ∙ sym (append_assoc (take at out) text (drop (at + length text) out))
+          ∙ sym (sets-eq text out at (omega (arith, size))));
+      ends = omega (arith, size);
+    }
 
 -- the same text by another name
 pub text_same : {out : List ℕ} {at : ℕ} {text other after : List ℕ} {next : ℕ} → text ≡ other → Writes out at text after next → Writes out at other after next
 text_same {out} {at} {after = after} {next = next} e w = subst (λ (t : List ℕ). Writes out at t after next) e w
 
--- ---- text of a bounded length
-
-pub puts_text : {out : List ℕ} {at : ℕ} {text after : List ℕ} {next : ℕ} → Writes out at text after next → Puts (length text) out at text after next
-puts_text w = (w, omega (arith, w.ends))
-
-pub puts_nothing : (out : List ℕ) (at : ℕ) → Puts 0 out at [] out at
-puts_nothing out at = (writes_nothing out at, omega arith)
-
 -- one text after another
 pub puts_both : (j k : ℕ) {out : List ℕ} {at : ℕ} {first mid : List ℕ} {from : ℕ} {second after : List ℕ} {next : ℕ}
     → Puts j out at first mid from → Puts k mid from second after next → Puts (j + k) out at (first ++ second) after next
 puts_both j k v w = (writes_both v.0 w.0, omega (arith, v.1, w.1))
-
--- there is room for more
-pub puts_within : (k most : ℕ) {out : List ℕ} {at : ℕ} {text after : List ℕ} {next : ℕ} → k ≤ most → Puts k out at text after next → Puts most out at text after next
-puts_within k most h w = (w.0, omega (arith, w.1))

@@ -1,11 +1,9 @@
 -- The code's own terms: text put from a byte on, and the text of what its types hold.
 -- Assumes nothing.
-use Rattle.std.specs.Prelude.{not, cond, List, [], ◌∷◌, ◌++◌, ℕ, ◌+◌, ◌%◌, ◌≤◌, eqb}
+use Rattle.std.specs.Prelude.{◌≡◌, not, cond, List, [], ◌∷◌, ◌++◌, ℕ, ◌+◌, ◌%◌, ◌≤◌, eqb, length, Option, Some, None}
 use Rattle.bits.specs.Writing.{Writes}
 use Rattle.rules.specs.declared.Action.{Action}
 use Rattle.rules.specs.declared.Action.TheVariants.{Hold, Deliver}
-use Rattle.rules.specs.declared.numbers.Place.{Place}
-use Rattle.rules.specs.declared.numbers.Place.TheVariants.{At, Nowhere}
 use Rattle.rules.specs.Table.{record_size}
 use Rattle.ruledesk.specs.Text.{codes, decimal}
 
@@ -13,9 +11,14 @@ use Rattle.ruledesk.specs.Text.{codes, decimal}
 abbrev pub Puts : ℕ → List ℕ → ℕ → List ℕ → List ℕ → ℕ → Type 0
 Puts most out at text after next = Writes out at text after next × (next ≤ at + most)
 
-unfoldable pub place_told : Place → List ℕ
-place_told (At place) = codes " at " ++ decimal place
-place_told Nowhere = []
+-- a text of at most so many bytes, put behind a line's bytes
+pub record Gains (most : ℕ) (before text after : List ℕ) : Type 0 where
+  pub behind : after ≡ before ++ text
+  pub few : length text ≤ most
+
+unfoldable pub place_told : Option ℕ → List ℕ
+place_told (Some place) = codes " at " ++ decimal place
+place_told None = []
 
 unfoldable pub action_told : Action → List ℕ
 action_told Hold = codes " hold"

@@ -1,94 +1,94 @@
-// An answer as a line of text, written from a byte of a lent buffer on.
-ghost use Rattle.std.specs.Prelude.{◌+◌, ◌≤◌, length};
+// An answer as a line of text, which has at most 64 bytes. `Display` would not do: a `fmt` may fail, no clause says when it does not,
+// and `report` promises the text of every input.
+ghost use Rattle.std.specs.Prelude.{◌≡◌, ◌+◌, ◌≤◌, length};
 ghost use Rattle.rules.specs.Refusal.{said};
 ghost use Rattle.lookup.specs.InCode.{outcome_said, looked_said};
-ghost use Rattle.ruledesk.specs.InCode.{Puts, place_told, action_told};
+ghost use Rattle.ruledesk.specs.Text.{decimal};
+ghost use Rattle.ruledesk.specs.InCode.{Gains, place_told, action_told};
 ghost use Rattle.ruledesk.specs.Lines.{refused_text, outcome_text, answer_text, line};
 
-use crate::text::{put_decimal, put_text};
-use lookup::{Looked, Outcome};
-use rules::{Action, Place, Refusal};
+use arrayvec::ArrayString;
+use lookup::{Answer, Outcome};
+use rules::{Action, Refusal};
+
+pub const MOST_LINE: usize = 64;
+
+pub type Line = ArrayString<MOST_LINE>;
+
+fn put_decimal(line: &mut Line, number: u64)
+    requires { length line.old.bytes + 20 ≤ 64 }
+    ensures { Gains 20 line.old.bytes (decimal number) line.new.bytes }
+{
+    let mut digits = itoa::Buffer::new();
+    line.push_str(digits.format(number));
+}
 
 // " at P" where there is a place.
-fn put_place(out: &mut [u8], at: usize, place: Place) -> usize
-    requires { at + 24 ≤ length out.old }
-    ensures { Puts 24 out.old at (place_told place) out.new result }
+fn put_place(line: &mut Line, place: Option<usize>)
+    requires { length line.old.bytes + 24 ≤ 64 }
+    ensures { Gains 24 line.old.bytes (place_told place) line.new.bytes }
 {
-    match place {
-        Place::At(place) => {
-            let next = put_text(out, at, b" at ");
-            put_decimal(out, next, place as u64)
-        }
-        Place::Nowhere => at,
+    if let Some(place) = place {
+        line.push_str(" at ");
+        put_decimal(line, place as u64);
     }
 }
 
 // "`refused N`, or `refused N at P` where a place is carried"
-fn put_refusal(out: &mut [u8], at: usize, refusal: Refusal) -> usize
-    requires { at + 52 ≤ length out.old }
-    ensures { Puts 52 out.old at (refused_text (said refusal)) out.new result }
+fn put_refusal(line: &mut Line, refusal: Refusal)
+    requires { length line.old.bytes + 52 ≤ 64 }
+    ensures { Gains 52 line.old.bytes (refused_text (said refusal)) line.new.bytes }
 {
-    let number = put_text(out, at, b"refused ");
-    let place = put_decimal(out, number, rules::number_of(refusal));
-    put_place(out, place, rules::place_of(refusal))
+    line.push_str("refused ");
+    put_decimal(line, refusal.number());
+    put_place(line, refusal.place());
 }
 
 // " hold" or " deliver F"
-fn put_action(out: &mut [u8], at: usize, action: Action) -> usize
-    requires { at + 29 ≤ length out.old }
-    ensures { Puts 29 out.old at (action_told action) out.new result }
+fn put_action(line: &mut Line, action: Action)
+    requires { length line.old.bytes + 29 ≤ 64 }
+    ensures { Gains 29 line.old.bytes (action_told action) line.new.bytes }
 {
     match action {
-        Action::Hold => put_text(out, at, b" hold"),
+        Action::Hold => line.push_str(" hold"),
         Action::Deliver(feed) => {
-            let next = put_text(out, at, b" deliver ");
-            put_decimal(out, next, feed as u64)
+            line.push_str(" deliver ");
+            put_decimal(line, u64::from(feed));
         }
     }
 }
 
 // "`match P hold`, `match P deliver F` or `none`"
-fn put_outcome(out: &mut [u8], at: usize, outcome: Outcome) -> usize
-    requires { at + 55 ≤ length out.old }
-    ensures { Puts 55 out.old at (outcome_text (outcome_said outcome)) out.new result }
+fn put_outcome(line: &mut Line, outcome: Outcome)
+    requires { length line.old.bytes + 55 ≤ 64 }
+    ensures { Gains 55 line.old.bytes (outcome_text (outcome_said outcome)) line.new.bytes }
 {
     match outcome {
-        Outcome::NoMatch => put_text(out, at, b"none"),
+        Outcome::NoMatch => line.push_str("none"),
         Outcome::Match(place, action) => {
-            let number = put_text(out, at, b"match ");
-            let next = put_decimal(out, number, place as u64);
-            put_action(out, next, action)
+            line.push_str("match ");
+            put_decimal(line, place as u64);
+            put_action(line, action);
         }
     }
 }
 
-// What lookup answered: the outcome, or the refusal.
-fn put_answer(out: &mut [u8], at: usize, looked: Looked) -> usize
-    requires { at + 55 ≤ length out.old }
-    ensures { Puts 55 out.old at (answer_text (looked_said looked)) out.new result }
+// The line of what lookup answered: the outcome, or the refusal.
+pub fn answer_line(looked: Result<Answer, Refusal>) -> Line
+    ensures { result.bytes ≡ line (answer_text (looked_said looked)) }
 {
+    let mut line = Line::new();
     match looked {
-        Looked::Found(answer) => {
-            let outcome = answer.outcome;
-            put_outcome(out, at, outcome)
-        }
-        Looked::Refused(refusal) => put_refusal(out, at, refusal),
+        Ok(answer) => put_outcome(&mut line, answer.outcome),
+        Err(refusal) => put_refusal(&mut line, refusal),
     }
-}
-
-// The same as a line.
-pub fn put_answer_line(out: &mut [u8], at: usize, looked: Looked) -> usize
-    requires { at + 64 ≤ length out.old }
-    ensures { Puts 64 out.old at (line (answer_text (looked_said looked))) out.new result }
-{
-    let end = put_answer(out, at, looked);
-    put_text(out, end, b"\n")
+    line.push_str("\n");
+    line
 }
 
 // The line of a refusal, whichever call gave it.
-pub fn put_refusal_line(out: &mut [u8], at: usize, refusal: Refusal) -> usize
-    requires { at + 64 ≤ length out.old }
-    ensures { Puts 64 out.old at (line (refused_text (said refusal))) out.new result }
+pub fn refusal_line(refusal: Refusal) -> Line
+    ensures { result.bytes ≡ line (refused_text (said refusal)) }
 {
-    put_answer_line(out, at, Looked::Refused(refusal))
+    answer_line(Err(refusal))
 }

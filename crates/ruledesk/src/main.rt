@@ -6,7 +6,6 @@
 mod lines;
 mod read;
 mod report;
-mod text;
 
 use report::{AREA_WORDS, MOST_INPUT, TABLE_BYTES, TEXT_BYTES};
 use std::io;

@@ -4,7 +4,7 @@ use mathlib.Core.Path.{◌≡◌, sym, ap, subst, ◌∙◌}
 use mathlib.Core.Logic.{◌↔◌, ⊎_elim}
 use mathlib.Core.Bool.{Bool, true, false, not}
 use mathlib.Core.List.{List}
-use mathlib.Core.Option.{Option, none, some}
+use Rattle.std.specs.Prelude.{Option, None, Some}
 use Prim.Native.Nat.{ℕ, ◌+◌, ◌-◌, ◌*◌, ◌/◌, ◌≤◌, ◌<◌}
 use native.Mathlib.Nat.{add-sub_of_le, div-lt_iff_lt-mul, div-mul-le_self, lt-div-mul-add}
 use native.Mathlib.Omega.{arith}
@@ -100,13 +100,13 @@ module _ (size : ℕ) (pos : 0 < size) (rules : List Rule) (values : List ℕ) (
   -- "a block before the winner's (any block, where none wins)"
   before_none : (blocks : ℕ) (o : Option ℕ) → Told (matches_at rules values) (length rules) o → b < blocks_before size blocks o → NoneYet size rules values b
   unfolding blocks_before
-  before_none blocks none never h place inside low = never place inside
-  before_none blocks (some winner) is h place inside low = is.first place (block_before size place winner pos (omega arith))
+  before_none blocks None never h place inside low = never place inside
+  before_none blocks (Some winner) is h place inside low = is.first place (block_before size place winner pos (omega arith))
 
   none_before : (blocks : ℕ) (o : Option ℕ) → Told (matches_at rules values) (length rules) o → b < blocks → NoneYet size rules values b → b < blocks_before size blocks o
   unfolding blocks_before
-  none_before blocks none never h yet = h
-  none_before blocks (some winner) is h yet =
+  none_before blocks None never h yet = h
+  none_before blocks (Some winner) is h yet =
       ⊎_elim (λ later. later) (λ low. clash is.passes (yet winner is.below low)) (less b (winner / size))
 
   module _ (blocks : ℕ) (fits : length rules ≤ blocks * size) (some-field : 0 < length values) where

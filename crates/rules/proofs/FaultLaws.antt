@@ -5,19 +5,22 @@ use mathlib.Core.Path.{◌≡◌, refl, sym, ap, ◌∙◌}
 use mathlib.Core.Logic.{◌↔◌, ◌⊎◌, inl, inr, ⊎_elim}
 use mathlib.Core.Bool.{Bool, true, false, not, cond, true≢false}
 use mathlib.Core.List.{List, [], ◌∷◌}
-use mathlib.Core.Option.{Option, none, some}
-use Prim.Native.Nat.{ℕ, suc, ◌%◌, ◌≤◌, ◌<◌}
+use Rattle.std.specs.Prelude.{Option, None, Some}
+use Prim.Native.Nat.{ℕ, zero, suc, ◌+◌, ◌%◌, ◌≤◌, ◌<◌}
 use native.Mathlib.Omega.{arith}
 use lib.Dec.{eqb, ltb}
 use lib.ListN.{length, get_or}
 use borrow.Author.Tests.{eqb-true, eqb-false, eq-eqb, ne_eqb, ltb-false, le-ltb}
 use Rattle.bits.specs.Tests.{lowest}
-use Rattle.bits.proofs.TestLaws.{Lowest, Told, lowest_told, lowest_some}
+use Rattle.bits.proofs.TestLaws.{less, Lowest, Told, lowest_told, lowest_some}
 use Rattle.rules.specs.declared.Action.TheVariants.{Hold, Deliver}
-use Rattle.rules.specs.declared.Decoded.TheVariants.{Known, Unknown}
+use Rattle.std.specs.Prelude.{Some, None}
 use Rattle.rules.specs.Action.{decoded, is_unknown}
 use Rattle.rules.specs.Table.{record_size, most_rules, rule_count, record_at, fault, rule_said, faulty, place_said, rules_said, verdict}
+use Rattle.rules.specs.declared.Refusal.{Refusal}
+use Rattle.rules.specs.Refusal.{said}
 use Rattle.rules.proofs.TableLaws.{faulty_fault, clean_fault}
+use Rattle.rules.proofs.SaidLaws.{numbered}
 
 -- ---- the first fault of a table
 
@@ -48,8 +51,8 @@ module _ (table : List ℕ) (n place : ℕ) where
           → cond (not w) (1 ∷ []) (cond m (2 ∷ []) (place_said table o)) ≡ suc n ∷ place ∷ [] → FaultAt table (suc n) place
       go false p m q o t s = absurd (omega (arith, ap length s))
       go true p true q o t s = absurd (omega (arith, ap length s))
-      go true p false q none t s = unfold place_said in absurd (omega (arith, ap length s))
-      go true p false q (some k) t s =
+      go true p false q None t s = unfold place_said in absurd (omega (arith, ap length s))
+      go true p false q (Some k) t s =
           unfold place_said in
           let here = said_there k (faulty_fault table k t.passes) s in
           record {
@@ -77,22 +80,57 @@ module _ (table : List ℕ) (n place : ℕ) where
   pub verdict_fault : (verdict table ≡ suc n ∷ place ∷ []) ↔ FaultAt table (suc n) place
   verdict_fault = (verdict_faulty, faulty_verdict)
 
+-- ---- the rules tried in turn, up to one at a place
+
+module _ (table : List ℕ) (place : ℕ) where
+  abbrev here : List ℕ
+  here = record_at table place
+
+  -- it is not at fault
+  pub passed_here : ((lower : ℕ) → lower < place → fault (record_at table lower) ≡ 0) → 0 ∷ [] ≡ rule_said place here
+      → (lower : ℕ) → lower < place + 1 → fault (record_at table lower) ≡ 0
+  unfolding rule_said
+  passed_here earlier says lower below = ⊎_elim (earlier lower) (λ (h : place ≤ lower). rw (← last h) (clean (fault here) says)) (less lower place)
+    where
+      last : place ≤ lower → place ≡ lower
+      last h = omega arith
+
+      clean : (n : ℕ) → 0 ∷ [] ≡ cond (eqb n 0) (0 ∷ []) (n ∷ place ∷ []) → n ≡ 0
+      clean zero e = refl
+      clean (suc n) e =
+          let fails : 0 ∷ [] ≡ suc n ∷ place ∷ [] = rw (ne_eqb (suc n) 0 (λ k. omega arith)) at e in
+          absurd (omega (arith, ap length fails))
+
+  -- it is the first at fault, and so the one that the table is refused for
+  pub stopped_here : length table % record_size ≡ 0 → rule_count table ≤ most_rules → place < rule_count table
+      → ((lower : ℕ) → lower < place → fault (record_at table lower) ≡ 0) → (r : Refusal) → said r ≡ rule_said place here → said r ≡ verdict table
+  unfolding rule_said
+  stopped_here whole few inside earlier r says = go (fault here) refl
+    where
+      go : (n : ℕ) → fault here ≡ n → said r ≡ verdict table
+      go zero e =
+          let done : said r ≡ 0 ∷ [] = rw e at says in
+          absurd (omega (arith, ap (λ (l : List ℕ). get_or l 0 0) (sym (numbered r).2 ∙ done)))
+      go (suc n) e =
+          let fails : said r ≡ suc n ∷ place ∷ [] = rw (e, ne_eqb (suc n) 0 (λ k. omega arith)) at says in
+          fails ∙ sym (faulty_verdict table n place (record { whole = whole; few = few; inside = inside; earlier = earlier; first = e }))
+
 -- ---- the fault of an action
 
 -- "unknown kind, or hold with a feed other than 0"
-pub unknown_exact : (kind feed : ℕ) → (decoded kind feed ≡ Unknown) ↔ ((1 < kind) ⊎ ((kind ≡ 0) × (feed ≡ 0 → ⊥)))
+pub unknown_exact : (kind feed : ℕ) → (decoded kind feed ≡ None) ↔ ((1 < kind) ⊎ ((kind ≡ 0) × (feed ≡ 0 → ⊥)))
 unfolding decoded is_unknown
 unknown_exact kind feed = (told (eqb kind 0) refl (eqb kind 1) refl (eqb feed 0) refl, ⊎_elim above held)
   where
     told : (z : Bool) → eqb kind 0 ≡ z → (o : Bool) → eqb kind 1 ≡ o → (f : Bool) → eqb feed 0 ≡ f
-        → cond z (cond f (Known Hold) Unknown) (cond o (Known (Deliver feed)) Unknown) ≡ Unknown → (1 < kind) ⊎ ((kind ≡ 0) × (feed ≡ 0 → ⊥))
+        → cond z (cond f (Some Hold) None) (cond o (Some (Deliver feed)) None) ≡ None → (1 < kind) ⊎ ((kind ≡ 0) × (feed ≡ 0 → ⊥))
     told true p o q true r e = absurd (true≢false (sym (ap is_unknown e)))
     told true p o q false r e = inr (eqb-true kind 0 p, eqb-false feed 0 r)
     told false p true q f r e = absurd (true≢false (sym (ap is_unknown e)))
     told false p false q f r e = inl (omega (arith, eqb-false kind 0 p, eqb-false kind 1 q))
 
-    above : 1 < kind → decoded kind feed ≡ Unknown
+    above : 1 < kind → decoded kind feed ≡ None
     above h = unfold decoded in rw (ne_eqb kind 0 (λ e. omega arith), ne_eqb kind 1 (λ e. omega arith))
 
-    held : (kind ≡ 0) × (feed ≡ 0 → ⊥) → decoded kind feed ≡ Unknown
+    held : (kind ≡ 0) × (feed ≡ 0 → ⊥) → decoded kind feed ≡ None
     held h = unfold decoded in rw (eq-eqb kind 0 h.0, ne_eqb feed 0 h.1)

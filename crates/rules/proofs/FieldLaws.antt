@@ -1,16 +1,15 @@
--- What holds of each of the five fields, by one test that is computed over all of them; and what a table of one number per field holds.
+-- What holds of each of the five fields, by one test that is computed over all of them.
 -- Assumes nothing.
-use mathlib.Core.Path.{◌≡◌, refl, ap, ◌∙◌}
-use mathlib.Core.Bool.{Bool, true, false, ◌&&◌, ◌||◌}
-use mathlib.Core.List.{map}
+use mathlib.Core.Path.{◌≡◌, refl}
+use mathlib.Core.Bool.{Bool, true, false, ◌&&◌}
 use Prim.Native.Nat.{ℕ, ◌+◌, ◌*◌, ◌/◌, ◌≤◌, ◌<◌}
 use native.Mathlib.Omega.{arith}
 use lib.Dec.{eqb, leb}
-use lib.ListN.{get_or, drop, get_or-map}
 use borrow.Author.Tests.{leb-true, eqb-true}
 use Rattle.bits.specs.Tests.{any, all, up_from}
-use Rattle.bits.proofs.TestLaws.{and_trues, all_up, any_from, all_from, none_at}
-use Rattle.rules.specs.Field.{Field, fields, field_at}
+use Rattle.bits.proofs.TestLaws.{and_trues, all_up, none_at}
+use Rattle.rules.specs.declared.fields.Field.{Field}
+use Rattle.rules.specs.Field.{fields, field_at}
 
 -- the value stands in whole bytes within the first 13, and the length at byte 13 + f
 pub record SoundField (f : ℕ) : Type 0 where
@@ -41,42 +40,6 @@ field_sound f h =
       lengths = eqb-true _ _ d.1;
     }
 
--- a table with a number for each field holds that field's at its place
-pub field_listed : (g : Field → ℕ) (f : ℕ) → get_or (map g fields) f (g (field_at 5)) ≡ g (field_at f)
-field_listed g f = get_or-map g fields f (field_at 5)
-
--- ---- a test of the fields that are left, from field f on
-
--- past the last field none is left
-module _ (test : Field → Bool) (f : ℕ) (over : f ≡ 5) where
-  pub field_over : any test (drop f fields) ≡ false
-  unfolding any
-  field_over = ap (λ (g : ℕ). any test (drop g fields)) over
-
-  pub all_over : all test (drop f fields) ≡ true
-  unfolding all
-  all_over = ap (λ (g : ℕ). all test (drop g fields)) over
-
-module _ (test : Field → Bool) (f : ℕ) (inside : f < 5) where
-  field_turn : any test (drop f fields) ≡ (test (field_at f) || any test (drop (f + 1) fields))
-  field_turn = any_from test fields (field_at 5) f inside
-
-  pub field_stop : test (field_at f) ≡ true → any test (drop f fields) ≡ true
-  field_stop e = field_turn ∙ ap (λ t. t || any test (drop (f + 1) fields)) e
-
-  pub field_on : test (field_at f) ≡ false → any test (drop f fields) ≡ any test (drop (f + 1) fields)
-  field_on e = field_turn ∙ ap (λ t. t || any test (drop (f + 1) fields)) e
-
-  pub field_none : any test fields ≡ false → test (field_at f) ≡ false
-  field_none e = none_at test fields (field_at 5) f e inside
-
-  -- the same where every field is to pass
-
-  all_turn : all test (drop f fields) ≡ (test (field_at f) && all test (drop (f + 1) fields))
-  all_turn = all_from test fields (field_at 5) f inside
-
-  pub field_fails : test (field_at f) ≡ false → all test (drop f fields) ≡ false
-  field_fails e = all_turn ∙ ap (λ t. t && all test (drop (f + 1) fields)) e
-
-  pub field_passes : test (field_at f) ≡ true → all test (drop f fields) ≡ all test (drop (f + 1) fields)
-  field_passes e = all_turn ∙ ap (λ t. t && all test (drop (f + 1) fields)) e
+-- where no field passes a test, field f does not
+pub field_none : (test : Field → Bool) (f : ℕ) → f < 5 → any test fields ≡ false → test (field_at f) ≡ false
+field_none test f inside e = none_at test fields (field_at 5) f e inside

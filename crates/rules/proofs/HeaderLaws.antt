@@ -11,7 +11,8 @@ use Rattle.bits.specs.Tests.{up_from}
 use Rattle.bits.proofs.NumberLaws.{bytes_append, bytes_small, byte_bits, number_bytes}
 use Rattle.bits.proofs.EachLaws.{tabled}
 use Rattle.rules.specs.declared.Header.{Header}
-use Rattle.rules.specs.Field.{Field, fields, field_at, value_in}
+use Rattle.rules.specs.declared.fields.Field.{Field}
+use Rattle.rules.specs.Field.{fields, field_at, value_in}
 use Rattle.rules.specs.Rule.{span_of, rule_of}
 use Rattle.rules.specs.Table.{SoundRule}
 use Rattle.rules.specs.Header.{header_size, header_values, header_bytes}

@@ -7,7 +7,9 @@ pub mod TestWords
 pub mod SaidLaws
 pub mod SpanLaws
 pub mod OverlapLaws
+pub mod RecordLaws
 pub mod RuleLaws
+pub mod PlacedLaws
 pub mod PortLaws
 pub mod Determined
 pub mod ActionLaws

@@ -3,7 +3,7 @@
 use mathlib.Core.Path.{◌≡◌}
 use mathlib.Core.Bool.{Bool}
 use mathlib.Core.List.{List}
-use mathlib.Core.Option.{none, some}
+use Rattle.std.specs.Prelude.{None, Some}
 use Prim.Native.Nat.{ℕ, ◌*◌, ◌<◌}
 use lib.ListN.{length}
 use Rattle.bits.specs.Number.{Bytes}
@@ -50,10 +50,10 @@ module _ (rules : List Rule) (h : List ℕ) where
   unfolding first_match
   match_told = lowest_told matches_at (length rules)
 
-  pub first_match_lem : (place : ℕ) → First place → first_match rules h ≡ some place
+  pub first_match_lem : (place : ℕ) → First place → first_match rules h ≡ Some place
   unfolding first_match
   first_match_lem place f = lowest_some matches_at (length rules) place f
 
-  pub no_match : Never matches_at (length rules) → first_match rules h ≡ none
+  pub no_match : Never matches_at (length rules) → first_match rules h ≡ None
   unfolding first_match
   no_match never = lowest_none matches_at (length rules) never

@@ -13,7 +13,8 @@ use Rattle.bits.specs.Path.{bits, prefix, leads, stray}
 use Rattle.bits.specs.Tests.{any, all}
 use Rattle.bits.proofs.NumberLaws.{number_small}
 use Rattle.bits.proofs.EachLaws.{get_d_map, each_maps, all_same}
-use Rattle.rules.specs.Field.{Field, fields, field_at, value_in, length_in}
+use Rattle.rules.specs.declared.fields.Field.{Field}
+use Rattle.rules.specs.Field.{fields, field_at, value_in, length_in}
 use Rattle.rules.specs.Rule.{Span, has, span_of, nowhere, span_in, rule_of}
 use Rattle.rules.specs.Table.{record_size, long_prefix, stray_bit, fault}
 use Rattle.rules.specs.Header.{header_size, header_values}

@@ -4,16 +4,14 @@ use mathlib.Core.Path.{◌≡◌, refl, sym, ap, ◌∙◌}
 use mathlib.Core.List.{List, [], ◌∷◌, zip_with, flatten}
 use Prim.Native.Nat.{ℕ, zero, suc}
 use lib.ListN.{get_or, drop}
+use Rattle.std.specs.Prelude.{Result, Ok, Err}
 use Rattle.bits.specs.Number.{number_at, bytes_of}
 use Rattle.bits.proofs.NumberLaws.{number_bytes}
 use Rattle.rules.specs.declared.Header.{Header}
 use Rattle.rules.specs.declared.Refusal.{Refusal}
 use Rattle.rules.specs.declared.Refusal.TheVariants.{RaggedTable, TooManyRules, LongPrefix, StrayBit, UnknownAction, SpareBytes, ShortArea, NotAHeader, DamagedArea, ShortList, NotAnOrder, ShortOutput, NotAllowed, StrayPort}
-use Rattle.rules.specs.declared.Checked.{Checked}
-use Rattle.rules.specs.declared.Checked.TheVariants.{Accepted, Refused}
-use Rattle.rules.specs.declared.Heard as heard
 use Rattle.rules.specs.Header.{header_bytes}
-use Rattle.rules.specs.Refusal.{values, said, checked_said, heard_said, first_refusal}
+use Rattle.rules.specs.Refusal.{values, said, told, checked_said, heard_said, first_refusal}
 
 -- ---- a header from its bytes, and from its values
 
@@ -135,18 +133,22 @@ module _ {A : Type 0} where
   pub one_answer : (say : A → List ℕ) (from : List ℕ → A) → ((a : A) → from (say a) ≡ a) → (a b : A) → say a ≡ say b → a ≡ b
   one_answer say from back a b e = sym (back a) ∙ ap from e ∙ back b
 
-checked_back : (c : Checked) → answer_from (λ vs. Accepted) Refused (checked_said c) ≡ c
-unfolding checked_said
-checked_back Accepted = refl
-checked_back (Refused r) = answer_refused (λ vs. Accepted) Refused r
+-- so are the values of what is done, and the refusal
+module _ {A : Type 0} (carried : A → List ℕ) (read : List ℕ → A) (back : (a : A) → read (carried a) ≡ a) where
+  from_told : List ℕ → Result A Refusal
+  from_told = answer_from (λ vs. Ok (read vs)) (λ r. Err r)
 
-pub checked_one : (a b : Checked) → checked_said a ≡ checked_said b → a ≡ b
-checked_one = one_answer checked_said (answer_from (λ vs. Accepted) Refused) checked_back
+  told_back : (a : Result A Refusal) → from_told (told carried a) ≡ a
+  unfolding told from_told
+  told_back (Ok a) = ap (λ (x : A). Ok x) (back a)
+  told_back (Err r) = answer_refused (λ vs. Ok (read vs)) (λ r. Err r) r
 
-heard_back : (a : heard.Heard) → answer_from (λ vs. heard.TheVariants.Values (from_values vs)) heard.TheVariants.Refused (heard_said a) ≡ a
-unfolding heard_said from_values
-heard_back (heard.TheVariants.Values h) = refl
-heard_back (heard.TheVariants.Refused r) = answer_refused (λ vs. heard.TheVariants.Values (from_values vs)) heard.TheVariants.Refused r
+  pub told_one : (a b : Result A Refusal) → told carried a ≡ told carried b → a ≡ b
+  told_one = one_answer (told carried) from_told told_back
 
-pub heard_one : (a b : heard.Heard) → heard_said a ≡ heard_said b → a ≡ b
-heard_one = one_answer heard_said (answer_from (λ vs. heard.TheVariants.Values (from_values vs)) heard.TheVariants.Refused) heard_back
+pub checked_one : (a b : Result Unit Refusal) → checked_said a ≡ checked_said b → a ≡ b
+checked_one = told_one (λ _. []) (λ _. tt) (λ _. refl)
+
+pub heard_one : (a b : Result Header Refusal) → heard_said a ≡ heard_said b → a ≡ b
+unfolding from_values
+heard_one = told_one values from_values (λ _. refl)

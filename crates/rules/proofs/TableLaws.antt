@@ -3,9 +3,8 @@
 use mathlib.Core.Path.{◌≡◌, refl, sym, ap, ◌∙◌}
 use mathlib.Core.Bool.{Bool, true, false, not, cond, true≢false}
 use mathlib.Core.List.{List, [], ◌∷◌, head-eq_of_cons-eq}
-use mathlib.Core.Option.{Option, none, some}
-use Prim.Native.Nat.{ℕ, zero, suc, ◌+◌, ◌*◌, ◌%◌, ◌≤◌, ◌<◌}
-use native.Mathlib.Numerals.{add-one}
+use Rattle.std.specs.Prelude.{Option, None, Some}
+use Prim.Native.Nat.{ℕ, ◌+◌, ◌*◌, ◌%◌, ◌≤◌, ◌<◌}
 use native.Mathlib.Omega.{arith}
 use lib.Dec.{eqb, ltb}
 use lib.ListN.{length, take, drop, length-take, length-drop}
@@ -15,10 +14,9 @@ use Rattle.bits.specs.Tests.{all, lowest}
 use Rattle.bits.proofs.NumberLaws.{number_nonzero}
 use Rattle.bits.proofs.TestLaws.{and_trues, lowest_told, lowest_none, Told, Never}
 use Rattle.rules.specs.declared.Action.{Action}
-use Rattle.rules.specs.declared.Decoded.TheVariants.{Known, Unknown}
+use Rattle.std.specs.Prelude.{Some, None}
 use Rattle.rules.specs.Action.{action_in, is_unknown}
-use Rattle.rules.specs.Refusal.{first_refusal}
-use Rattle.rules.specs.Table.{record_size, most_rules, rule_count, record_at, long_prefix, stray_bit, unknown_action, spare_bytes, stray_port, rule_tests, first_failed, fault, rule_said, faulty, place_said, rules_said, verdict, Accepted}
+use Rattle.rules.specs.Table.{record_size, most_rules, rule_count, record_at, long_prefix, stray_bit, unknown_action, spare_bytes, stray_port, rule_tests, first_failed, fault, rule_said, faulty, place_said, rules_said, verdict, Accepted, SoundRule}
 use Rattle.rules.proofs.ActionLaws.{known}
 use Rattle.rules.proofs.FirstFailed.{none_failed}
 
@@ -33,11 +31,11 @@ module _ (place : ℕ) (bytes : List ℕ) where
   unfolding rule_said fault first_failed rule_tests
   said_stray e f = rw (e, f)
 
-  pub said_unknown : long_prefix bytes ≡ false → stray_bit bytes ≡ false → action_in bytes ≡ Unknown → rule_said place bytes ≡ 5 ∷ place ∷ []
+  pub said_unknown : long_prefix bytes ≡ false → stray_bit bytes ≡ false → action_in bytes ≡ None → rule_said place bytes ≡ 5 ∷ place ∷ []
   unfolding rule_said fault first_failed rule_tests unknown_action is_unknown
   said_unknown e f g = rw (e, f, g)
 
-  module _ (a : Action) (short : long_prefix bytes ≡ false) (clean : stray_bit bytes ≡ false) (known : action_in bytes ≡ Known a) where
+  module _ (a : Action) (short : long_prefix bytes ≡ false) (clean : stray_bit bytes ≡ false) (known : action_in bytes ≡ Some a) where
     pub said_spare : spare_bytes bytes ≡ true → rule_said place bytes ≡ 6 ∷ place ∷ []
     unfolding rule_said fault first_failed rule_tests unknown_action is_unknown
     said_spare h = rw (short, clean, known, h)
@@ -74,11 +72,11 @@ faultless bytes e =
     }
 
 -- so its action is known
-pub sound_known : (bytes : List ℕ) → fault bytes ≡ 0 → (a : Action) × (action_in bytes ≡ Known a)
+pub sound_known : (bytes : List ℕ) → fault bytes ≡ 0 → (a : Action) × (action_in bytes ≡ Some a)
 unfolding unknown_action
 sound_known bytes e = known (action_in bytes) (faultless bytes e).known
 
-pub never_unknown : (bytes : List ℕ) → fault bytes ≡ 0 → action_in bytes ≡ Unknown → ⊥
+pub never_unknown : (bytes : List ℕ) → fault bytes ≡ 0 → action_in bytes ≡ None → ⊥
 unfolding unknown_action is_unknown
 never_unknown bytes e u = true≢false (sym (ap is_unknown u) ∙ (faultless bytes e).known)
 
@@ -93,7 +91,7 @@ pub length_record : (table : List ℕ) (place : ℕ) → (place + 1) * record_si
 unfolding record_at
 length_record table place h = rw (length-take, length-drop) (omega arith)
 
--- ---- one rule more
+-- ---- a rule at fault, by the test
 
 pub faulty_fault : (table : List ℕ) (place : ℕ) → faulty table place ≡ true → eqb (fault (record_at table place)) 0 ≡ false
 unfolding faulty
@@ -102,32 +100,6 @@ faulty_fault table place e = not-true (eqb (fault (record_at table place)) 0) e
 pub clean_fault : (table : List ℕ) (place : ℕ) → faulty table place ≡ false → eqb (fault (record_at table place)) 0 ≡ true
 unfolding faulty
 clean_fault table place e = not-false (eqb (fault (record_at table place)) 0) e
-
-rule_clean : (place : ℕ) (bytes : List ℕ) → eqb (fault bytes) 0 ≡ true → rule_said place bytes ≡ 0 ∷ []
-unfolding rule_said
-rule_clean place bytes e = rw e
-
-rule_faulty : (place : ℕ) (bytes b : List ℕ) → eqb (fault bytes) 0 ≡ false → first_refusal (rule_said place bytes) b ≡ rule_said place bytes
-unfolding rule_said
-rule_faulty place bytes b e = rw e (go (fault bytes) e)
-  where
-    go : (n : ℕ) → eqb n 0 ≡ false → first_refusal (n ∷ place ∷ []) b ≡ n ∷ place ∷ []
-    go zero q = absurd (eqb-false 0 0 q refl)
-    go (suc n) q = unfold first_refusal in refl
-
-pub rules_none : (table : List ℕ) → rules_said table 0 ≡ 0 ∷ []
-unfolding rules_said place_said lowest
-rules_none table = refl
-
-pub rules_more : (table : List ℕ) (n : ℕ) → first_refusal (rules_said table n) (rule_said n (record_at table n)) ≡ rules_said table (n + 1)
-unfolding rules_said place_said lowest first_refusal
-rules_more table n = rw (add-one n) (go (lowest (faulty table) n) (lowest_told (faulty table) n) (faulty table n) refl)
-  where
-    go : (o : Option ℕ) → Told (faulty table) n o → (b : Bool) → faulty table n ≡ b
-        → first_refusal (place_said table o) (rule_said n (record_at table n)) ≡ place_said table (elim o [ some p ↦ some p | none ↦ elim b [ true ↦ some n | false ↦ none ] ])
-    go (some p) t b e = rule_faulty p (record_at table p) (rule_said n (record_at table n)) (faulty_fault table p t.passes)
-    go none t true e = refl
-    go none t false e = rule_clean n (record_at table n) (clean_fault table n e)
 
 -- ---- accepted tables
 
@@ -142,8 +114,8 @@ unfolding rules_said place_said rule_said
 rules_sound table n e = go (lowest (faulty table) n) (lowest_told (faulty table) n) e
   where
     go : (o : Option ℕ) → Told (faulty table) n o → place_said table o ≡ 0 ∷ [] → (place : ℕ) → place < n → fault (record_at table place) ≡ 0
-    go none t q place h = eqb-true _ _ (clean_fault table place (t place h))
-    go (some p) t q place h =
+    go None t q place h = eqb-true _ _ (clean_fault table place (t place h))
+    go (Some p) t q place h =
         let bad = faulty_fault table p t.passes in
         let said : fault (record_at table p) ∷ p ∷ [] ≡ 0 ∷ [] = rw bad at q in
         absurd (eqb-false (fault (record_at table p)) 0 bad (head-eq_of_cons-eq said))
@@ -161,6 +133,13 @@ accepted_sound table e = go (eqb (length table % record_size) 0) refl (ltb most_
       few = ltb-false _ _ q;
       faultless = rules_sound table (rule_count table) r;
     }
+
+-- each of its records is whole and not at fault
+pub accepted_record : (table : List ℕ) → Accepted table → (place : ℕ) → place < rule_count table → SoundRule (record_at table place)
+accepted_record table e place h = record {
+  whole = length_record table place (omega arith);
+  faultless = (accepted_sound table e).faultless place h;
+}
 
 pub sound_accepted : (table : List ℕ) → SoundTable table → Accepted table
 unfolding verdict rules_said place_said

@@ -4,7 +4,7 @@ use mathlib.Core.Path.{◌≡◌, refl, sym, ap, ◌∙◌}
 use mathlib.Core.Logic.{◌↔◌, ◌⊎◌, inl, inr, ⊎_elim}
 use mathlib.Core.Bool.{Bool, true, false, not, cond}
 use mathlib.Core.List.{List, [], ◌∷◌}
-use mathlib.Core.Option.{Option, none, some}
+use Rattle.std.specs.Prelude.{Option, None, Some}
 use Prim.Native.Nat.{ℕ, ◌+◌, ◌-◌, ◌%◌, ◌≤◌, ◌<◌}
 use native.Mathlib.Omega.{arith}
 use lib.Dec.{eqb, ltb}
@@ -16,10 +16,11 @@ use Rattle.bits.specs.Tests.{all, lowest}
 use Rattle.bits.proofs.TestLaws.{and_trues, none_at, Told, lowest_told}
 use Rattle.bits.proofs.EachLaws.{none_any}
 use Rattle.bits.proofs.PathLaws.{length_bits}
-use Rattle.rules.specs.declared.Decoded.TheVariants.{Unknown}
+use Rattle.std.specs.Prelude.{None}
 use Rattle.rules.specs.declared.Refusal.{Refusal}
 use Rattle.rules.specs.declared.Refusal.TheVariants.{RaggedTable, TooManyRules, LongPrefix, StrayBit, UnknownAction, SpareBytes, StrayPort}
-use Rattle.rules.specs.Field.{Field, fields, field_at, value_in, length_in}
+use Rattle.rules.specs.declared.fields.Field.{Field}
+use Rattle.rules.specs.Field.{fields, field_at, value_in, length_in}
 use Rattle.rules.specs.Action.{action_in, is_unknown}
 use Rattle.rules.specs.Refusal.{said}
 use Rattle.rules.specs.Table.{record_size, most_rules, rule_count, record_at, long_prefix, stray_bit, unknown_action, spare_bytes, stray_port, test, rule_tests, first_failed, fault, rule_said, faulty, place_said, rules_said, verdict, Accepted}
@@ -89,7 +90,7 @@ unfolding fault first_failed rule_tests
 faultless_fault bytes f = rw (f.short, f.clean, f.known, f.spare, f.carried)
 
 -- 5: the tests before it pass, and the action is not known
-pub fifth_exact : (bytes : List ℕ) → (fault bytes ≡ 5) ↔ ((long_prefix bytes ≡ false) × (stray_bit bytes ≡ false) × (action_in bytes ≡ Unknown))
+pub fifth_exact : (bytes : List ℕ) → (fault bytes ≡ 5) ↔ ((long_prefix bytes ≡ false) × (stray_bit bytes ≡ false) × (action_in bytes ≡ None))
 unfolding fault rule_tests unknown_action is_unknown all
 fifth_exact bytes =
     let exact =
@@ -144,7 +145,7 @@ accepted_or_refused table =
         ⊎ ((why : Refusal) × (said why ≡ cond (not whole) (1 ∷ []) (cond many (2 ∷ []) (place_said table o))))
     go false many o t = inr (RaggedTable, refl)
     go true true o t = inr (TooManyRules, refl)
-    go true false none t = inl refl
-    go true false (some p) t =
+    go true false None t = inl refl
+    go true false (Some p) t =
         let bad = faulty_fault table p t.passes in
         ⊎_elim (λ e. absurd (eqb-false (fault (record_at table p)) 0 bad e)) (λ w. inr (w.0, rw bad w.1)) (rule_refused (record_at table p) p)

@@ -1,16 +1,11 @@
 -- The five fields of a rule and of a header (01: "The rule record and the header record").
 -- Assumes nothing.
 use Rattle.std.specs.Prelude.{List, [], ◌∷◌, ℕ, ◌/◌, get_or}
+use Rattle.rules.specs.declared.fields.Field.{Field}
 use Rattle.bits.specs.Number.{number_at}
 
-pub record Field : Type 0 where
-  -- the byte at which its value starts, in a record and in a header alike
-  pub start : ℕ
-  -- the bits of its value, and so the largest length of its prefix
-  pub width : ℕ
-  -- the byte of a record that holds the length of its prefix
-  pub length_at : ℕ
-
+-- a field: the byte at which its value starts, in a record and in a header alike; the bits of its value, and so the largest length of its
+-- prefix; and the byte of a record that holds the length of its prefix
 abbrev field : ℕ → ℕ → ℕ → Field
 field s w l = record { start = s; width = w; length_at = l }
 

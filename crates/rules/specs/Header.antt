@@ -3,7 +3,8 @@
 use Rattle.std.specs.Prelude.{cond, ℕ, ◌/◌, eqb, length}
 use mathlib.Core.List.{List, [], ◌∷◌, map, zip_with, flatten}
 use Rattle.bits.specs.Number.{bytes_of}
-use Rattle.rules.specs.Field.{Field, fields, value_in}
+use Rattle.rules.specs.declared.fields.Field.{Field}
+use Rattle.rules.specs.Field.{fields, value_in}
 
 abbrev pub header_size : ℕ
 header_size = 13

@@ -2,9 +2,8 @@
 -- A header is the list of its values, as in `header_values`.
 -- Assumes nothing.
 use Rattle.std.specs.Prelude.{Bool, not, ◌&&◌, List, [], ◌∷◌, ℕ, ◌*◌, ◌/◌, length, get_or, take, drop}
-use Rattle.std.proofs.Math.Option.{Option, none, some}
+use Rattle.std.specs.Prelude.{Option, None, Some}
 use Rattle.bits.specs.Tests.{any, all, each, up_from, lowest, count}
-use Rattle.rules.specs.declared.Decoded.TheVariants.{Unknown}
 use Rattle.rules.specs.Rule.{has, Rule, nowhere, span_in}
 
 -- "A rule matches when each of its five prefixes is a leading part of the header's value": when its span has it (`has_leads`)
@@ -13,7 +12,7 @@ matches header r = each has r.spans header
 
 -- a rule that matches nothing: what stands past the last
 abbrev pub no_rule : Rule
-no_rule = record { spans = nowhere ∷ []; paths = []; action = Unknown }
+no_rule = record { spans = nowhere ∷ []; paths = []; action = None }
 
 -- the rule at a place
 abbrev pub rule_at : List Rule → ℕ → Rule
@@ -40,8 +39,8 @@ deceives header block =
 
 -- "a block before the winner's (any block, where none wins)"
 unfoldable pub blocks_before : ℕ → ℕ → Option ℕ → ℕ
-blocks_before size blocks none = blocks
-blocks_before size blocks (some place) = place / size
+blocks_before size blocks None = blocks
+blocks_before size blocks (Some place) = place / size
 
 -- the number of false blocks, of `blocks` blocks of `size` places
 unfoldable pub false_blocks : ℕ → ℕ → List Rule → List ℕ → ℕ

@@ -1,15 +1,10 @@
 -- What the desk says, in 01's own numbers and 02's: the number of each refusal and the values that it carries ("The desk's numbers").
 -- An answer is said as the list of its number and then its values.
 -- Assumes nothing.
-use Rattle.std.specs.Prelude.{List, [], ◌∷◌, ℕ, zero, suc, get_or}
+use Rattle.std.specs.Prelude.{List, [], ◌∷◌, ℕ, zero, suc, get_or, Option, Some, None, Result, Ok, Err}
 use Rattle.rules.specs.declared.Header.{Header}
 use Rattle.rules.specs.declared.Refusal.{Refusal}
 use Rattle.rules.specs.declared.Refusal.TheVariants.{RaggedTable, TooManyRules, LongPrefix, StrayBit, UnknownAction, SpareBytes, ShortArea, NotAHeader, DamagedArea, ShortList, NotAnOrder, ShortOutput, NotAllowed, StrayPort}
-use Rattle.rules.specs.declared.numbers.Place.{Place}
-use Rattle.rules.specs.declared.numbers.Place.TheVariants.{At, Nowhere}
-use Rattle.rules.specs.declared.Checked.{Checked}
-use Rattle.rules.specs.declared.Checked.TheVariants.{Accepted, Refused}
-use Rattle.rules.specs.declared.Heard as heard
 use Rattle.rules.specs.Header.{header_bytes}
 
 -- the five values of a header, in their order
@@ -37,24 +32,28 @@ unfoldable pub number_of : Refusal → ℕ
 number_of r = get_or (said r) 0 0
 
 -- the one value of a refusal that carries a place
-abbrev placed : List ℕ → Place
-placed [] = Nowhere
-placed (n ∷ []) = Nowhere
-placed (n ∷ place ∷ []) = At place
-placed (n ∷ place ∷ more ∷ vs) = Nowhere
+abbrev placed : List ℕ → Option ℕ
+placed [] = None
+placed (n ∷ []) = None
+placed (n ∷ place ∷ []) = Some place
+placed (n ∷ place ∷ more ∷ vs) = None
 
-unfoldable pub place_of : Refusal → Place
+unfoldable pub place_of : Refusal → Option ℕ
 place_of r = placed (said r)
 
+-- of what is done: 0, and then the values that it carries; of a refusal: its number and its values
+module _ {A : Type 0} (carried : A → List ℕ) where
+  unfoldable pub told : Result A Refusal → List ℕ
+  told (Ok done) = 0 ∷ carried done
+  told (Err r) = said r
+
 -- a table or a rule that is accepted is done, with nothing to carry
-unfoldable pub checked_said : Checked → List ℕ
-checked_said Accepted = 0 ∷ []
-checked_said (Refused r) = said r
+abbrev pub checked_said : {A : Type 0} → Result A Refusal → List ℕ
+checked_said = told (λ _. [])
 
 -- a header that is read carries its five values
-unfoldable pub heard_said : heard.Heard → List ℕ
-heard_said (heard.TheVariants.Values h) = 0 ∷ values h
-heard_said (heard.TheVariants.Refused r) = said r
+abbrev pub heard_said : Result Header Refusal → List ℕ
+heard_said = told values
 
 -- what two checks say, one after the other: the first that refuses; where neither does, what the second says
 unfoldable pub first_refusal : List ℕ → List ℕ → List ℕ

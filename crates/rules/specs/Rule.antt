@@ -1,9 +1,10 @@
 -- What a rule means: in each field a span of values and the paths that lead them, and an action.
 -- Assumes nothing.
-use Rattle.std.specs.Prelude.{Bool, ◌&&◌, List, [], ◌∷◌, map, ℕ, ◌+◌, ◌-◌, ◌^◌, leb, get_or}
+use Rattle.std.specs.Prelude.{Bool, ◌&&◌, List, [], ◌∷◌, map, ℕ, ◌+◌, ◌-◌, ◌^◌, leb, get_or, Option}
 use Rattle.bits.specs.Path.{Path, prefix}
-use Rattle.rules.specs.declared.Decoded.{Decoded}
-use Rattle.rules.specs.Field.{Field, fields, value_in, length_in}
+use Rattle.rules.specs.declared.Action.{Action}
+use Rattle.rules.specs.declared.fields.Field.{Field}
+use Rattle.rules.specs.Field.{fields, value_in, length_in}
 use Rattle.rules.specs.Action.{action_in}
 
 -- all numbers from `low` to `high`
@@ -22,7 +23,7 @@ span_of w v l = record { low = v; high = v + (2 ^ (w - l) - 1) }
 pub record Rule : Type 0 where
   pub spans : List Span
   pub paths : List (List Path)
-  pub action : Decoded
+  pub action : Option Action
 
 -- a span that has no value: what stands past the last
 abbrev pub nowhere : Span

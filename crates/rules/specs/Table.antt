@@ -1,10 +1,11 @@
 -- A rule table: its records, when a record is at fault, and the verdict on the whole.
 -- Assumes nothing.
 use Rattle.std.specs.Prelude.{◌≡◌, Bool, not, cond, ◌&&◌, List, [], ◌∷◌, map, ℕ, ◌*◌, ◌/◌, ◌%◌, eqb, ltb, length, take, drop}
-use Rattle.std.proofs.Math.Option.{Option, none, some}
+use Rattle.std.specs.Prelude.{Option, None, Some}
 use Rattle.bits.specs.Path.{stray}
 use Rattle.bits.specs.Tests.{any, up_from, lowest}
-use Rattle.rules.specs.Field.{Field, fields, value_in, length_in}
+use Rattle.rules.specs.declared.fields.Field.{Field}
+use Rattle.rules.specs.Field.{fields, value_in, length_in}
 use Rattle.rules.specs.Action.{action_in, is_unknown}
 use Rattle.rules.specs.Rule.{Rule, rule_of}
 use Rattle.rules.specs.Ports.{asks_port, has_ports}
@@ -86,8 +87,8 @@ faulty table place = not (eqb (fault (record_at table place)) 0)
 
 -- what is said where the lowest place with a fault is found, or none
 unfoldable pub place_said : List ℕ → Option ℕ → List ℕ
-place_said table none = 0 ∷ []
-place_said table (some place) = rule_said place (record_at table place)
+place_said table None = 0 ∷ []
+place_said table (Some place) = rule_said place (record_at table place)
 
 -- "The lowest place with a fault is named": of the places below n
 unfoldable pub rules_said : List ℕ → ℕ → List ℕ

@@ -1,20 +1,54 @@
 // The five fields by number: how wide each is, and what a record or a header holds there.
-// Source address, destination address, source port, destination port, protocol.
 ghost use Rattle.std.specs.Prelude.{◌≡◌, ◌^◌, ◌≤◌, ◌<◌, length};
 ghost use Rattle.rules.specs.Field.{field_at, value_in, length_in};
-ghost use Rattle.rules.specs.Table.{record_size};
 ghost use Rattle.rules.specs.Header.{header_size};
 
-const WIDTHS: [usize; 5] = [32, 32, 16, 16, 8];
+use crate::{FIELDS, RecordBytes};
+use bits::Prefix;
 
-const STARTS: [usize; 5] = [0, 4, 8, 10, 12];
+// Where a field stands: the first byte of its value in a record and a header alike, the value's bits, and the byte of a record that
+// holds the length of its prefix.
+#[derive(Clone, Copy)]
+pub struct Field {
+    pub start: usize,
+    pub width: usize,
+    pub length_at: usize,
+}
+
+const LAYOUT: [Field; FIELDS] = [
+    Field {
+        start: 0,
+        width: 32,
+        length_at: 13,
+    },
+    Field {
+        start: 4,
+        width: 32,
+        length_at: 14,
+    },
+    Field {
+        start: 8,
+        width: 16,
+        length_at: 15,
+    },
+    Field {
+        start: 10,
+        width: 16,
+        length_at: 16,
+    },
+    Field {
+        start: 12,
+        width: 8,
+        length_at: 17,
+    },
+];
 
 // The bits of field f.
-pub fn width_of(f: usize) -> usize
+pub(crate) fn width_of(f: usize) -> usize
     requires { f < 5 }
     ensures { (result ≡ (field_at f).width) × (result ≤ 32) }
 {
-    WIDTHS[f]
+    LAYOUT[f].width
 }
 
 // Field f's value in a record or a header: both begin with the five values.
@@ -22,13 +56,27 @@ pub fn value_of(bytes: &[u8], f: usize) -> u32
     requires { (f < 5) × (header_size ≤ length bytes.now) }
     ensures { (result ≡ value_in bytes.now (field_at f)) × (result < 2 ^ (field_at f).width) }
 {
-    bits::number_at(bytes, STARTS[f], WIDTHS[f] / 8)
+    bits::number_at(bytes, LAYOUT[f].start, LAYOUT[f].width / 8)
+}
+
+// The same with all its bits, as a prefix of full length.
+pub fn whole_value(bytes: &[u8], f: usize) -> Prefix
+    requires { (f < 5) × (header_size ≤ length bytes.now) }
+    ensures value { result.value ≡ value_in bytes.now (field_at f) }
+    ensures len { result.len ≡ (field_at f).width }
+    ensures width { result.width ≡ (field_at f).width }
+{
+    Prefix {
+        value: value_of(bytes, f),
+        len: width_of(f),
+        width: width_of(f),
+    }
 }
 
 // The length of field f's prefix in a record.
-pub fn length_of(rule: &[u8], f: usize) -> usize
-    requires { (f < 5) × (record_size ≤ length rule.now) }
-    ensures { result ≡ length_in rule.now (field_at f) }
+pub(crate) fn length_of(bytes: &RecordBytes, f: usize) -> usize
+    requires { f < 5 }
+    ensures { result ≡ length_in bytes.now (field_at f) }
 {
-    rule[13 + f] as usize
+    usize::from(bytes[LAYOUT[f].length_at])
 }

@@ -6,11 +6,13 @@ mod check;
 mod fields;
 mod headers;
 mod numbers;
+mod prefixes;
+mod records;
 
-pub use check::{check_rule, check_table, decode, record_at};
-pub use fields::{length_of, value_of, width_of};
-pub use headers::read_header;
-pub use numbers::{Place, number_of, place_of};
+pub use check::{check_rule, check_table, decode};
+pub use fields::{value_of, whole_value};
+pub use prefixes::Prefixes;
+pub use records::{Record, Table, record_at};
 
 pub const RECORD_BYTES: usize = 24;
 
@@ -18,19 +20,16 @@ pub const HEADER_BYTES: usize = 13;
 
 pub const MOST_RULES: usize = 256;
 
+// Source address, destination address, source port, destination port, protocol. A field is named by its number: 01 roots field f's
+// paths at record f of an index.
 pub const FIELDS: usize = 5;
 
-#[derive(Clone, Copy)]
+pub type RecordBytes = [u8; RECORD_BYTES];
+
+#[derive(Clone, Copy, PartialEq, Eq)]
 pub enum Action {
     Hold,
     Deliver(u8),
-}
-
-// What a record's action bytes give.
-#[derive(Clone, Copy)]
-pub enum Decoded {
-    Known(Action),
-    Unknown,
 }
 
 // The five values of a packet header.
@@ -68,16 +67,4 @@ pub enum Refusal {
     ShortOutput,
     NotAllowed(Crossing),
     StrayPort(usize),
-}
-
-#[derive(Clone, Copy)]
-pub enum Checked {
-    Accepted,
-    Refused(Refusal),
-}
-
-#[derive(Clone, Copy)]
-pub enum Heard {
-    Values(Header),
-    Refused(Refusal),
 }

@@ -7,8 +7,7 @@ mod patterns;
 mod records;
 mod six;
 
-pub use areas::large_area;
+pub use areas::{AREA_WORDS, large_area};
 pub use orders::reverse;
-pub use patterns::{Pattern, fill};
-pub use records::put_byte;
-pub use six::six_rules;
+pub use patterns::{Pattern, TABLE_BYTES, fill};
+pub use six::{SIX_BYTES, six_rules};

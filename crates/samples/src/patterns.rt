@@ -1,7 +1,12 @@
 // Tables of 256 rules, each rule made from its place.
-use crate::records::{delivering_rule, write_record};
-use rules::MOST_RULES;
+use crate::records::delivering_rule;
+use rules::{MOST_RULES, RECORD_BYTES, RecordBytes};
 
+// A table of 256 rules.
+pub const TABLE_BYTES: usize = MOST_RULES * RECORD_BYTES;
+
+// An enum, not a parameter `impl Fn(u8) -> RecordBytes`: that would have to ask of the callers of `fill`, which asks nothing, that it may
+// be called.
 #[derive(Clone, Copy)]
 pub enum Pattern {
     // Addresses to 24 and 16 bits, an exact destination port, one of two protocols.
@@ -17,41 +22,48 @@ pub enum Pattern {
     OwnFeed,
 }
 
+impl Pattern {
+    fn rule_at(self, place: u8) -> RecordBytes {
+        match self {
+            Pattern::Traffic => traffic(place),
+            Pattern::Crossing => crossing(place),
+            Pattern::Exact => exact(place),
+            Pattern::Equal => delivering_rule(0, 0, 0, 0, 0),
+            Pattern::OwnFeed => delivering_rule(0, 0, 0, 0, place),
+        }
+    }
+}
+
+// As many of the rules as the table has room for.
 pub fn fill(table: &mut [u8], pattern: Pattern) {
-    for place in 0..MOST_RULES {
-        write_record(table, place, rule_at(pattern, low_byte(place)));
+    let (records, _) = table.as_chunks_mut();
+    for (place, record) in (0..=u8::MAX).zip(records) {
+        *record = pattern.rule_at(place);
     }
 }
 
-fn rule_at(pattern: Pattern, place: u8) -> [u8; 24] {
-    match pattern {
-        Pattern::Traffic => traffic(place),
-        Pattern::Crossing => crossing(place),
-        Pattern::Exact => exact(place),
-        Pattern::Equal => delivering_rule(0, 0, 0, 0, 0),
-        Pattern::OwnFeed => delivering_rule(0, 0, 0, 0, place),
-    }
+// A byte of its own for each place: the factors are odd.
+fn spread(place: u8, factor: u8, first: u8) -> u8 {
+    place.wrapping_mul(factor).wrapping_add(first)
 }
 
-fn traffic(place: u8) -> [u8; 24] {
-    let i = place as usize;
-    let mut rule = delivering_rule(low_byte(i * 167 + 13), 24, low_byte(i * 89 + 3), 16, 0);
-    rule[1] = low_byte(i * 59 + 101);
-    rule[2] = low_byte(i * 211 + 7);
-    rule[5] = low_byte(i * 151 + 77);
-    rule[10] = low_byte(i / 16);
-    rule[11] = low_byte(i * 73 + 80);
-    rule[12] = port_protocol(i);
+fn traffic(place: u8) -> RecordBytes {
+    let mut rule = delivering_rule(spread(place, 167, 13), 24, spread(place, 89, 3), 16, 0);
+    rule[1] = spread(place, 59, 101);
+    rule[2] = spread(place, 211, 7);
+    rule[5] = spread(place, 151, 77);
+    rule[10] = place / 16;
+    rule[11] = spread(place, 73, 80);
+    rule[12] = port_protocol(place);
     rule[16] = 16;
     rule[17] = 8;
     rule
 }
 
-fn crossing(place: u8) -> [u8; 24] {
-    let i = place as usize;
-    let first = low_byte(i * 167 + 13);
-    let second = low_byte(i * 59 + 101);
-    if i % 2 == 0 {
+fn crossing(place: u8) -> RecordBytes {
+    let first = spread(place, 167, 13);
+    let second = spread(place, 59, 101);
+    if place.is_multiple_of(2) {
         let mut rule = delivering_rule(first, 16, 0, 0, 0);
         rule[1] = second;
         rule
@@ -62,11 +74,11 @@ fn crossing(place: u8) -> [u8; 24] {
     }
 }
 
-fn exact(byte: u8) -> [u8; 24] {
-    let mut rule = delivering_rule(byte, 32, byte, 32, byte);
-    rule[8] = byte;
-    rule[10] = byte;
-    rule[12] = port_protocol(byte as usize);
+fn exact(place: u8) -> RecordBytes {
+    let mut rule = delivering_rule(place, 32, place, 32, place);
+    rule[8] = place;
+    rule[10] = place;
+    rule[12] = port_protocol(place);
     rule[15] = 16;
     rule[16] = 16;
     rule[17] = 8;
@@ -74,10 +86,6 @@ fn exact(byte: u8) -> [u8; 24] {
 }
 
 // 6 and 17 by turns.
-fn port_protocol(place: usize) -> u8 {
-    low_byte(6 + (place % 2) * 11)
-}
-
-fn low_byte(value: usize) -> u8 {
-    (value % 256) as u8
+fn port_protocol(place: u8) -> u8 {
+    if place.is_multiple_of(2) { 6 } else { 17 }
 }

@@ -4,5 +4,5 @@
 mod printing;
 mod time;
 
-pub use printing::{number, refused, report, report_of, say};
+pub use printing::Refused;
 pub use time::{clock, since};

@@ -2,124 +2,91 @@
 // it leaves in an area that was full of ones.
 #![tactic(auto)]
 
-use desk::Built;
-use samples::Pattern;
-use std::io;
-use trial::{number, refused, say};
+use samples::{AREA_WORDS, Pattern, SIX_BYTES, TABLE_BYTES};
+use std::{fmt, io};
+use trial::Refused;
+
+// A line of output has as many words as a record of an index.
+const RECORD_WORDS: usize = 11;
 
 fn main(rt: HostRuntime) -> io::Result<()> {
-    let mut table = [0u8; 6144];
-    let mut area = [4294967295u32; 209];
-    no_rule(&rt, &table, &mut area)?;
+    six_rules(&rt)?;
+    all_rules(&rt)
+}
+
+// No rule and the six rules, a word short and exact; then the six rules with R3 of a kind that is unknown.
+fn six_rules(rt: &impl Print) -> io::Result<()> {
+    let mut table = [0; SIX_BYTES];
+    let mut area = [u32::MAX; 209];
     samples::six_rules(&mut table);
-    six_rules(&rt, &table, &mut area)?;
-    samples::put_byte(&mut table, 90, 2);
-    unknown_kind(&rt, &table, &mut area)?;
+    for (name, table, words) in [
+        ("no rule, 54 words", &table[..0], 54),
+        ("no rule, 55 words", &table[..0], 55),
+        ("six rules, 197 words", &table[..], 197),
+        ("six rules, 198 words", &table[..], 198),
+    ] {
+        build(rt, name, table, &mut area, words)?;
+        print_words(rt, &area)?;
+    }
+    table[90] = 2;
+    build(rt, "six rules, R3 of kind 2", &table, &mut area, 209)?;
+    print_words(rt, &area)
+}
+
+fn all_rules(rt: &impl Print) -> io::Result<()> {
+    let mut table = [0; TABLE_BYTES];
+    let mut area = samples::large_area();
     samples::fill(&mut table, Pattern::Exact);
-    let mut large = samples::large_area();
-    all_rules(&rt, &table, &mut large)
-}
-
-fn no_rule(rt: &impl Print, table: &[u8], area: &mut [u32]) -> io::Result<()> {
-    attempt(rt, "no rule, 54 words", table, 0, area, 54)?;
-    words(rt, area)?;
-    attempt(rt, "no rule, 55 words", table, 0, area, 55)?;
-    words(rt, area)
-}
-
-fn six_rules(rt: &impl Print, table: &[u8], area: &mut [u32]) -> io::Result<()> {
-    attempt(rt, "six rules, 197 words", table, 144, area, 197)?;
-    words(rt, area)?;
-    attempt(rt, "six rules, 198 words", table, 144, area, 198)?;
-    words(rt, area)
-}
-
-fn unknown_kind(rt: &impl Print, table: &[u8], area: &mut [u32]) -> io::Result<()> {
-    attempt(rt, "six rules, R3 of kind 2", table, 144, area, 209)?;
-    words(rt, area)
-}
-
-fn all_rules(rt: &impl Print, table: &[u8], area: &mut [u32]) -> io::Result<()> {
-    attempt(
-        rt,
-        "256 rules of full length, 202861 words",
-        table,
-        6144,
-        area,
-        202861,
-    )?;
-    corners(rt, area)?;
-    attempt(
-        rt,
-        "256 rules of full length, 202862 words",
-        table,
-        6144,
-        area,
-        202862,
-    )?;
-    corners(rt, area)
+    for (name, words) in [
+        ("256 rules of full length, 202861 words", 202861),
+        ("256 rules of full length, 202862 words", 202862),
+    ] {
+        build(rt, name, &table, &mut area, words)?;
+        print_corners(rt, &area)?;
+    }
+    Ok(())
 }
 
 // The first record, the last one of full length, and the word beyond.
-fn corners(rt: &impl Print, area: &[u32]) -> io::Result<()> {
-    if 202863 <= area.len() {
-        words(rt, &area[0..11])?;
-        words(rt, &area[202851..202862])?;
-        words(rt, &area[202862..202863])?;
-        say(rt, "\n")?;
+fn print_corners(rt: &impl Print, area: &[u32; AREA_WORDS]) -> io::Result<()> {
+    for part in [&area[..11], &area[202851..202862], &area[202862..202863]] {
+        print_words(rt, part)?;
     }
     Ok(())
 }
 
-fn attempt(
+// Builds in the first words of the area.
+fn build(
     rt: &impl Print,
     name: &str,
     table: &[u8],
-    bytes: usize,
     area: &mut [u32],
-    length: usize,
+    words: usize,
 ) -> io::Result<()> {
-    if bytes <= table.len() && length <= area.len() {
-        report(
-            rt,
-            name,
-            desk::build(&table[0..bytes], &mut area[0..length]),
-        )?;
+    let words = words.min(area.len());
+    match desk::build(table, &mut area[..words]) {
+        Ok(taken) => println!(rt; "{name}: done, {taken} words"),
+        Err(refusal) => println!(rt; "{name}: {}", Refused(refusal)),
     }
-    Ok(())
 }
 
 // All words, a record on each line.
-fn words(rt: &impl Print, area: &[u32]) -> io::Result<()> {
-    for i in 0..area.len() {
-        word_at(rt, area, i)?;
+fn print_words(rt: &impl Print, area: &[u32]) -> io::Result<()> {
+    for record in area.chunks(RECORD_WORDS) {
+        println!(rt; "{}", Line(record))?;
     }
     Ok(())
 }
 
-fn word_at(rt: &impl Print, area: &[u32], i: usize) -> io::Result<()> {
-    if i < area.len() {
-        word(rt, area[i])?;
-    }
-    if i % 11 == 10 {
-        say(rt, "\n")?;
-    }
-    Ok(())
-}
+// Words, each before a space.
+#[derive(Clone, Copy)]
+struct Line<'a>(&'a [u32]);
 
-fn word(rt: &impl Print, value: u32) -> io::Result<()> {
-    print!(rt; "{value} ")
-}
-
-fn report(rt: &impl Print, name: &str, built: Built) -> io::Result<()> {
-    say(rt, name)?;
-    match built {
-        Built::Done(words) => {
-            say(rt, ": done,")?;
-            number(rt, words as u64)?;
-            say(rt, " words")?;
+impl fmt::Display for Line<'_> {
+    fn fmt<W: fmt::Write>(&self, f: &mut fmt::Formatter<W>) -> fmt::Result {
+        for word in self.0 {
+            write!(f, "{word} ")?;
         }
-        Built::Refused(refusal) => refused(rt, refusal)?,
+        Ok(())
     }
-    say(rt, "\n")
 }

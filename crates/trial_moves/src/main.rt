@@ -2,237 +2,142 @@
 // prints what they answer and what they leave.
 #![tactic(auto)]
 
-use desk::{Judged, Paired};
-use rules::{Crossing, Refusal};
-use samples::Pattern;
-use std::io;
-use trial::{number, say};
+use rules::{MOST_RULES, RECORD_BYTES, Refusal};
+use samples::{Pattern, SIX_BYTES, TABLE_BYTES};
+use std::{fmt, io};
+use trial::Refused;
 
 fn main(rt: HostRuntime) -> io::Result<()> {
-    let mut table = [0u8; 6144];
-    let mut output = [9u8; 6144];
+    let mut table = [0; TABLE_BYTES];
+    let mut output = [9; TABLE_BYTES];
     samples::six_rules(&mut table);
     pair_lists(&rt, &table)?;
-    allowed_orders(&rt, &table, &mut output)?;
-    refused_orders(&rt, &table, &mut output)?;
-    bad_orders(&rt, &table, &mut output)?;
-    nothing(&rt, &table, &mut output)?;
-    samples::fill(&mut table, Pattern::Equal);
-    reversed(&rt, "256 equal rules reversed", &table, &mut output)?;
-    samples::fill(&mut table, Pattern::OwnFeed);
-    reversed(&rt, "256 feeds reversed", &table, &mut output)
-}
-
-// Lists of one pair: one entry short, exact, and longer.
-fn pair_lists(rt: &impl Print, table: &[u8]) -> io::Result<()> {
-    let mut list = [7u16; 3];
-    listed(rt, "list of 1", table, 144, &mut list, 1)?;
-    listed(rt, "list of 2", table, 144, &mut list, 2)?;
-    listed(rt, "list of 3", table, 144, &mut list, 3)?;
-    listed(rt, "no rule, list of 0", table, 0, &mut list, 0)?;
-    listed(rt, "a byte too many", table, 145, &mut list, 3)
-}
-
-fn listed(
-    rt: &impl Print,
-    name: &str,
-    table: &[u8],
-    bytes: usize,
-    list: &mut [u16],
-    entries: usize,
-) -> io::Result<()> {
-    if bytes <= table.len() && entries <= list.len() {
-        say(rt, name)?;
-        match desk::pairs(&table[0..bytes], &mut list[0..entries]) {
-            Paired::Listed(count) => counted(rt, count)?,
-            Paired::Refused(refusal) => refused(rt, refusal)?,
-        }
-        say(rt, "; list")?;
-        numbers(rt, list)?;
-        say(rt, "\n")?;
+    orders(&rt, &table, &mut output)?;
+    let mut order = [0; MOST_RULES];
+    samples::reverse(&mut order);
+    for (name, pattern) in [
+        ("256 equal rules reversed", Pattern::Equal),
+        ("256 feeds reversed", Pattern::OwnFeed),
+    ] {
+        samples::fill(&mut table, pattern);
+        judge(&rt, name, &table, &order, &mut output, TABLE_BYTES)?;
     }
     Ok(())
 }
 
-fn counted(rt: &impl Print, count: usize) -> io::Result<()> {
-    say(rt, ":")?;
-    number(rt, count as u64)?;
-    say(rt, " pairs")
+// Lists of one pair: one entry short, exact, and longer.
+fn pair_lists(rt: &impl Print, table: &[u8; TABLE_BYTES]) -> io::Result<()> {
+    let six = &table[..SIX_BYTES];
+    let mut list = [7; 3];
+    for (name, table, entries) in [
+        ("list of 1", six, 1),
+        ("list of 2", six, 2),
+        ("list of 3", six, 3),
+        ("no rule, list of 0", &table[..0], 0),
+        ("a byte too many", &table[..145], 3),
+    ] {
+        pairs(rt, name, table, &mut list, entries)?;
+    }
+    Ok(())
 }
 
-fn allowed_orders(rt: &impl Print, table: &[u8], output: &mut [u8]) -> io::Result<()> {
-    judged(
-        rt,
-        "left in place",
-        table,
-        144,
-        &[0, 1, 2, 3, 4, 5],
-        output,
-        144,
-    )?;
-    judged(
-        rt,
-        "4 and 5 exchanged",
-        table,
-        144,
-        &[0, 1, 2, 3, 5, 4],
-        output,
-        145,
-    )
-}
-
-fn refused_orders(rt: &impl Print, table: &[u8], output: &mut [u8]) -> io::Result<()> {
-    judged(
-        rt,
-        "0 and 1 exchanged",
-        table,
-        144,
-        &[1, 0, 2, 3, 4, 5],
-        output,
-        144,
-    )?;
-    judged(
-        rt,
-        "2 and 3 exchanged",
-        table,
-        144,
-        &[0, 1, 3, 2, 4, 5],
-        output,
-        144,
-    )?;
-    judged(
-        rt,
-        "output a byte short",
-        table,
-        144,
-        &[1, 0, 2, 3, 4, 5],
-        output,
-        143,
-    )
-}
-
-fn bad_orders(rt: &impl Print, table: &[u8], output: &mut [u8]) -> io::Result<()> {
-    judged(rt, "order of 5", table, 144, &[0, 1, 2, 3, 4], output, 144)?;
-    judged(
-        rt,
-        "order of 7",
-        table,
-        144,
-        &[0, 1, 2, 3, 4, 5, 6],
-        output,
-        144,
-    )?;
-    judged(rt, "entry 6", table, 144, &[0, 1, 2, 3, 4, 6], output, 144)?;
-    judged(
-        rt,
-        "entry 65535",
-        table,
-        144,
-        &[65535, 1, 2, 3, 4, 5],
-        output,
-        144,
-    )?;
-    judged(
-        rt,
-        "entry repeated",
-        table,
-        144,
-        &[0, 1, 2, 3, 4, 4],
-        output,
-        143,
-    )
-}
-
-fn nothing(rt: &impl Print, table: &[u8], output: &mut [u8]) -> io::Result<()> {
-    let none = [0u16; 0];
-    judged(rt, "no rule, no order", table, 0, &none, output, 0)?;
-    judged(rt, "no rule, order of 1", table, 0, &[0], output, 0)
-}
-
-fn reversed(rt: &impl Print, name: &str, table: &[u8], output: &mut [u8]) -> io::Result<()> {
-    let mut order = [0u16; 256];
-    samples::reverse(&mut order);
-    judged(rt, name, table, 6144, &order, output, 6144)
-}
-
-fn judged(
+// Lists in the first entries.
+fn pairs(
     rt: &impl Print,
     name: &str,
     table: &[u8],
-    bytes: usize,
+    list: &mut [u16],
+    entries: usize,
+) -> io::Result<()> {
+    let entries = entries.min(list.len());
+    match desk::pairs(table, &mut list[..entries]) {
+        Ok(count) => println!(rt; "{name}: {count} pairs; list{}", Entries(list)),
+        Err(refusal) => println!(rt; "{name}: {}; list{}", Refused(refusal), Entries(list)),
+    }
+}
+
+// Orders of the six rules that are allowed, that are refused, and that are none; then orders of no rule.
+fn orders(rt: &impl Print, table: &[u8; TABLE_BYTES], output: &mut [u8]) -> io::Result<()> {
+    let six = &table[..SIX_BYTES];
+    let none = &table[..0];
+    for (name, table, order, room) in [
+        ("left in place", six, &[0, 1, 2, 3, 4, 5][..], 144),
+        ("4 and 5 exchanged", six, &[0, 1, 2, 3, 5, 4][..], 145),
+        ("0 and 1 exchanged", six, &[1, 0, 2, 3, 4, 5][..], 144),
+        ("2 and 3 exchanged", six, &[0, 1, 3, 2, 4, 5][..], 144),
+        ("output a byte short", six, &[1, 0, 2, 3, 4, 5][..], 143),
+        ("order of 5", six, &[0, 1, 2, 3, 4][..], 144),
+        ("order of 7", six, &[0, 1, 2, 3, 4, 5, 6][..], 144),
+        ("entry 6", six, &[0, 1, 2, 3, 4, 6][..], 144),
+        ("entry 65535", six, &[65535, 1, 2, 3, 4, 5][..], 144),
+        ("entry repeated", six, &[0, 1, 2, 3, 4, 4][..], 143),
+        ("no rule, no order", none, &[][..], 0),
+        ("no rule, order of 1", none, &[0][..], 0),
+    ] {
+        judge(rt, name, table, order, output, room)?;
+    }
+    Ok(())
+}
+
+// Moves to the first bytes of the output.
+fn judge(
+    rt: &impl Print,
+    name: &str,
+    table: &[u8],
     order: &[u16],
     output: &mut [u8],
     room: usize,
 ) -> io::Result<()> {
-    if bytes <= table.len() && room <= output.len() {
-        say(rt, name)?;
-        match desk::judge(&table[0..bytes], order, &mut output[0..room]) {
-            Judged::Allowed => say(rt, ": allowed")?,
-            Judged::Refused(refusal) => refused(rt, refusal)?,
+    let room = room.min(output.len());
+    let judgement = Judgement(desk::judge(table, order, &mut output[..room]));
+    println!(rt; "{name}: {judgement}; feeds{}", Feeds(output))
+}
+
+// A pair list, each place after a space.
+#[derive(Clone, Copy)]
+struct Entries<'a>(&'a [u16]);
+
+impl fmt::Display for Entries<'_> {
+    fn fmt<W: fmt::Write>(&self, f: &mut fmt::Formatter<W>) -> fmt::Result {
+        for place in self.0 {
+            write!(f, " {place}")?;
         }
-        feeds(rt, output)?;
+        Ok(())
     }
-    Ok(())
 }
 
-// The feeds of the output's first six records.
-fn feeds(rt: &impl Print, output: &[u8]) -> io::Result<()> {
-    say(rt, "; feeds")?;
-    feed(rt, output, 0)?;
-    feed(rt, output, 1)?;
-    feed(rt, output, 2)?;
-    feed(rt, output, 3)?;
-    feed(rt, output, 4)?;
-    feed(rt, output, 5)?;
-    say(rt, "\n")
-}
+#[derive(Drop)]
+struct Judgement(Result<(), Refusal>);
 
-fn feed(rt: &impl Print, output: &[u8], place: usize) -> io::Result<()> {
-    let at = (place % 256) * 24 + 19;
-    if at < output.len() {
-        byte(rt, output[at])?;
+impl fmt::Display for Judgement {
+    fn fmt<W: fmt::Write>(&self, f: &mut fmt::Formatter<W>) -> fmt::Result {
+        let Err(refusal) = self.0 else {
+            return write!(f, "allowed");
+        };
+        write!(f, "{}", Refused(refusal))?;
+        if let Refusal::NotAllowed(crossing) = refusal {
+            let header = crossing.header;
+            write!(f, ", pair {} {}, header ", crossing.lower, crossing.higher)?;
+            write!(
+                f,
+                "{} {} {} {} {}",
+                header.source, header.destination, header.sport, header.dport, header.protocol
+            )?;
+        }
+        Ok(())
     }
-    Ok(())
 }
 
-fn numbers(rt: &impl Print, list: &[u16]) -> io::Result<()> {
-    for i in 0..list.len() {
-        entry(rt, list, i)?;
+// The feeds of the first six records.
+#[derive(Clone, Copy)]
+struct Feeds<'a>(&'a [u8]);
+
+impl fmt::Display for Feeds<'_> {
+    fn fmt<W: fmt::Write>(&self, f: &mut fmt::Formatter<W>) -> fmt::Result {
+        let (records, _) = self.0.as_chunks::<RECORD_BYTES>();
+        for record in records.iter().take(6) {
+            write!(f, " {}", record[19])?;
+        }
+        Ok(())
     }
-    Ok(())
-}
-
-fn entry(rt: &impl Print, list: &[u16], i: usize) -> io::Result<()> {
-    if i < list.len() {
-        place(rt, list[i])?;
-    }
-    Ok(())
-}
-
-fn place(rt: &impl Print, value: u16) -> io::Result<()> {
-    number(rt, value as u64)
-}
-
-fn byte(rt: &impl Print, value: u8) -> io::Result<()> {
-    number(rt, value as u64)
-}
-
-fn refused(rt: &impl Print, refusal: Refusal) -> io::Result<()> {
-    trial::refused(rt, refusal)?;
-    if let Refusal::NotAllowed(crossing) = refusal {
-        crossed(rt, crossing)?;
-    }
-    Ok(())
-}
-
-fn crossed(rt: &impl Print, crossing: Crossing) -> io::Result<()> {
-    say(rt, ", pair")?;
-    number(rt, crossing.lower as u64)?;
-    number(rt, crossing.higher as u64)?;
-    say(rt, ", header")?;
-    number(rt, crossing.header.source as u64)?;
-    number(rt, crossing.header.destination as u64)?;
-    number(rt, crossing.header.sport as u64)?;
-    number(rt, crossing.header.dport as u64)?;
-    number(rt, crossing.header.protocol as u64)
 }

@@ -1,8 +1,7 @@
 -- `aggregate` meets its contract. The loop's invariant: `sum` is the aggregate of the first w words.
 use mathlib.Core.Path.{◌≡◌}
-use Prim.Native.Nat.{◌≤◌}
 use Rattle.area.specs.Sums.{sum_at}
 use Rattle.area.proofs.sums.aggregate.Given as goal
 
 abbrev pub invariant-loop-w : goal.invariant-loop-w
-invariant-loop-w l = (l.w ≤ l.n) × (l.sum ≡ sum_at l.area l.at l.w)
+invariant-loop-w l = l.sum ≡ sum_at l.words 0 l.w

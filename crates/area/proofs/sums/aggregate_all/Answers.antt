@@ -1,22 +1,19 @@
 -- `aggregate_all` meets its contract. The loop's invariant: the first k records have their aggregates.
-use mathlib.Core.Path.{◌≡◌, refl}
+use mathlib.Core.Path.{◌≡◌, sym, ◌∙◌}
+use Prim.Native.Nat.{◌+◌, ◌*◌}
 use native.Mathlib.Omega.{arith}
-use lib.ListN.{length-set}
-use Rattle.area.specs.Upto.{upto}
-use Rattle.area.specs.Sums.{summed}
-use Rattle.area.proofs.SumLaws.{summed_more}
+use Rattle.area.specs.Shape.{blocks, record_words, vector_start}
+use Rattle.area.specs.Sums.{sum_at}
+use Rattle.area.proofs.SumLaws.{sum_of_part, summed_none, summed_more}
 use Rattle.area.proofs.sums.aggregate_all.Goals as goal
 
 pub loop-k-init : goal.loop-k-init
-unfolding summed upto
-loop-k-init c = (omega arith, refl, refl)
+loop-k-init c = sym (summed_none _)
 
 pub loop-k-preserved : goal.loop-k-preserved
 loop-k-preserved c =
-    let v = c.loop-k.invariant in
-    (omega arith, simp length-set v.1, rw (c.aggregate-sum.ensures, v.2) (summed_more _ _))
-
-pub returns : goal.returns
-returns c =
-    let past : c.loop-k.k ≡ c.args.count = omega arith in
-    rw (← past) c.loop-k.invariant.2
+    let l = c.loop-k in
+    let sum : c.aggregate-sum.result ≡ sum_at l.area (record_words * l.k + vector_start) blocks =
+    c.aggregate-sum.ensures ∙ rw c.vector.ensures (sum_of_part l.area _ blocks (omega arith))
+    in
+    rw (sum, l.invariant) (summed_more _ _)

@@ -1,9 +1,6 @@
 -- `mark` meets its contract.
 use mathlib.Core.Path.{sym}
-use native.Mathlib.Nat.{one-mul}
-use native.Mathlib.Omega.{arith}
-use lib.Dec.{lit<}
-use lib.Pow.{shl_exact}
+use Rattle.std.proofs.lemmas.Nat.{one_shl}
 use Rattle.area.proofs.SumLaws.{mark_none, mark_some}
 use Rattle.area.proofs.sums.mark.Goals as goal
 
@@ -11,6 +8,4 @@ pub returns-then-word-eq0 : goal.returns-then-word-eq0
 returns-then-word-eq0 c = sym (mark_none _ _ _ c.if-word-eq0.true)
 
 pub returns : goal.returns
-returns c =
-    let args = c.args in
-    rw (shl_exact 1 args.w 32 (lit< tt) (omega arith), one-mul) (sym (mark_some args.word args.w args.sum c.if-word-eq0.false))
+returns c = rw (one_shl c.args.w 32 c.requires) (sym (mark_some _ _ _ c.if-word-eq0.false))

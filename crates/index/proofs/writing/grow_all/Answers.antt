@@ -1,18 +1,13 @@
 -- `grow_all` meets its contract: the five roots are cleared, then all rules go in.
-use native.Mathlib.Omega.{arith}
-use Rattle.index.specs.Steps.{cleared, all_in}
-use Rattle.index.proofs.StepLaws.{room_roots, all_start}
+use Rattle.std.proofs.Common.{rules}
+use Rattle.index.proofs.StepLaws.{room_roots, all_start, all_grown}
 use Rattle.index.proofs.writing.grow_all.Goals as goal
 
-pub clear-requires : goal.clear-requires
-clear-requires c =
-    (omega arith, room_roots _ _ _ c.requires.sound.0 c.requires.roomy)
+pub rooted-growth-requires : goal.rooted-growth-requires
+rooted-growth-requires c = room_roots _ c.args.table.accepted _ c.requires
 
-pub rules_in-requires : goal.rules_in-requires
-rules_in-requires c =
-    record { sound = c.requires.sound; ready = all_start _ _ _ c.clear.ensures c.requires.sound.0 c.requires.roomy }
+pub grow_rules-requires : goal.grow_rules-requires
+grow_rules-requires c = record { room = all_start _ c.args.table.accepted _ c.requires c.rooted-growth.result c.rooted-growth.ensures.rooted }
 
 pub returns : goal.returns
-unfolding all_in cleared
-returns c =
-    rw c.clear.ensures at c.rules_in.ensures
+returns c = all_grown _ _ c.rooted-growth.result c.grow_rules.new.growth c.rooted-growth.ensures.rooted c.grow_rules.ensures.grown _ (search rules)

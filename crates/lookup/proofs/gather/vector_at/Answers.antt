@@ -1,29 +1,16 @@
--- `vector_at` meets its contract. The loop's invariant: the first b words are the record's.
-use mathlib.Core.Path.{refl, sym, ◌∙◌}
+-- `vector_at` meets its contract: the record's vector is the end of its row.
+use mathlib.Core.Path.{◌≡◌, sym, ap, ◌∙◌}
+use Prim.Native.Nat.{ℕ, ◌+◌, ◌-◌, ◌*◌}
 use native.Mathlib.Omega.{arith}
-use lib.ListN.{length-set}
-use Rattle.bits.proofs.StoreLaws.{fill_more, fill_done}
-use Rattle.area.specs.Shape.{blocks, desk_shape}
-use Rattle.lookup.specs.Walk.{vector_at}
-use Rattle.lookup.proofs.ReadLaws.{vector_length, vector_read}
+use lib.ListN.{take, drop}
+use Rattle.area.specs.Shape.{record_words, vector_start, blocks}
+use Rattle.lookup.proofs.ReadLaws.{vector_part}
 use Rattle.lookup.proofs.gather.vector_at.Goals as goal
-
-pub loop-b-init : goal.loop-b-init
-loop-b-init c = (omega arith, refl, refl)
-
-pub loop-b-preserved : goal.loop-b-preserved
-loop-b-preserved c =
-    let a = c.args in
-    let l = c.loop-b in
-    let area = a.area.now in
-    let whole = vector_length area a.row c.requires in (
-      omega arith,
-      length-set l.vector l.b _ ∙ l.invariant.1,
-      fill_more 0 (vector_at desk_shape area a.row) l.vector l.b _ (omega arith) (omega arith) l.invariant.2 (sym (vector_read area a.row l.b (omega arith))),
-    )
 
 pub returns : goal.returns
 returns c =
-    let a = c.args in
-    let l = c.loop-b in
-    fill_done (vector_at desk_shape a.area.now a.row) l.vector l.b blocks (omega arith) (vector_length a.area.now a.row c.requires) l.invariant.1 l.invariant.2
+    let start = record_words * c.args.row + vector_start in
+    let size : start + blocks - start ≡ blocks = omega arith in
+    c.vector.ensures
+    ∙ ap (λ (n : ℕ). take n (drop start c.args.area.now)) size
+    ∙ sym (vector_part c.args.area.now c.args.row)

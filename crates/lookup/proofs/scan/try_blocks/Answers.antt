@@ -1,14 +1,13 @@
 -- `try_blocks` meets its contract. The loop's invariant: what the blocks that are left give, with the false blocks counted so far, is what all give.
 use mathlib.Core.Path.{◌≡◌, sym, ap, ◌∙◌}
 use mathlib.Core.List.{List}
-use mathlib.Core.Option.{some}
+use Rattle.std.specs.Prelude.{Some}
 use Prim.Native.Nat.{ℕ, ◌+◌, ◌-◌, ◌*◌}
 use native.Mathlib.Omega.{arith}
 use lib.Count.{count_trailing_zeros}
 use Rattle.bits.specs.Word.{bit}
 use Rattle.area.specs.Shape.{blocks, desk_shape}
 use Rattle.lookup.specs.Scan.{found, scan, meet}
-use Rattle.lookup.specs.InCode.{placed, scanned}
 use Rattle.lookup.proofs.BlockTurns.{counted, counted_none, block_past, block_false, block_wins, blocks_done}
 use Rattle.lookup.proofs.scan.try_blocks.Goals as goal
 use Rattle.lookup.proofs.scan.try_blocks.Goals.{then-is_set+else-hit, else-is_set}
@@ -21,11 +20,10 @@ pub loop-b-init : goal.loop-b-init
 loop-b-init c = (omega arith, omega arith, counted_none _)
 
 pub returns-then-hit : goal.returns-then-hit
-unfolding scanned placed
 returns-then-hit c =
     let l = c.loop-b in
     let vectors = c.args.vectors in
-    ap (λ (n : ℕ). found (some (l.b * 32 + n)) l.falses) (c.lowest.ensures.0 ∙ ap (count_trailing_zeros 32) c.intersect-word.ensures)
+    ap (λ (n : ℕ). found (Some (l.b * 32 + n)) l.falses) (c.lowest.ensures.0 ∙ ap (count_trailing_zeros 32) c.intersect-word.ensures)
     ∙ sym (block_wins (bit c.common_bits-tried.result) (meet desk_shape vectors) l.b c.loop-b-test.true l.falses
     (sym c.if-is_set.ensures) (λ z. c.if-hit.true (c.intersect-word.ensures ∙ z)))
     ∙ l.invariant.2
@@ -53,7 +51,6 @@ loop-b-preserved c =
     ]
 
 pub returns : goal.returns
-unfolding scanned placed
 returns c =
     let l = c.loop-b in
     sym (blocks_done (bit c.common_bits-tried.result) (meet desk_shape c.args.vectors) l.b l.falses c.loop-b-test.false)

@@ -1,74 +1,56 @@
--- `go_down_all` meets its contract. The loop's invariant: the records reached so far, before those that the walks that are left reach, are all.
-use mathlib.Core.Path.{◌≡◌, refl, sym, ap, ap₂, ◌∙◌}
-use mathlib.Core.List.{List, append-nil}
-use mathlib.Core.Option.{Option, some}
-use Prim.Native.Nat.{ℕ, ◌+◌, ◌/◌, ◌<◌}
-use native.Mathlib.Numerals.{add-one}
-use native.Mathlib.Omega.{arith}
-use lib.ListN.{length, set, take, drop, length-set, get_or-replicate}
-use lib.Seq.{take_all, take-suc-set}
-use Rattle.bits.specs.Path.{bits}
-use Rattle.rules.specs.Field.{field_at, value_in}
-use Rattle.rules.specs.Header.{header_values}
-use Rattle.area.specs.Shape.{desk_shape, record_words}
-use Rattle.lookup.specs.Walk.{walk_from, walk, ends}
-use Rattle.lookup.specs.Look.{keys_from, header_keys}
-use Rattle.lookup.specs.InCode.{reached, reached_all}
-use Rattle.lookup.proofs.WalkTurns.{walk_inside}
-use Rattle.lookup.proofs.FieldTurns.{joined, joined_none, keys_of, fields_bad, fields_on, inside_set}
+-- `go_down_all` meets its contract: the walks so far, up to one that meets damage.
+use mathlib.Core.Path.{◌≡◌, refl, sym, ap, ◌∙◌}
+use mathlib.Core.List.{List, [], ◌∷◌}
+use Prim.Native.Nat.{ℕ}
+use Rattle.std.specs.Prelude.{Option, None, Some}
+use Rattle.area.specs.Shape.{desk_shape}
+use Rattle.index.specs.Key.{Key}
+use Rattle.lookup.specs.Walk.{walk, ends}
+use Rattle.lookup.specs.InCode.{key_at}
+use Rattle.lookup.proofs.WalkLaws.{ends_bad, ends_worse, ends_more}
+use Rattle.lookup.proofs.FieldTurns.{keys_of, five_keys}
 use Rattle.lookup.proofs.walk.go_down_all.Goals as goal
 
-pub loop-f-init : goal.loop-f-init
-loop-f-init c = (omega arith, refl, λ f h. omega (arith, get_or-replicate {A = ℕ} 5 f 0 0 h), joined_none _)
+-- the walks in some fields of a header
+module _ (area header : List ℕ) where
+  from : List Key → Option (List ℕ)
+  from ks = ends desk_shape area ks
 
--- the walk by the width and the value that are read is field f's
-met : (area header : List ℕ) (f : ℕ) {w v : ℕ} {end : Option ℕ} → end ≡ walk_from desk_shape area f (bits w v)
-    → w ≡ (field_at f).width → v ≡ value_in header (field_at f)
-    → walk_from desk_shape area f (bits (field_at f).width (value_in header (field_at f))) ≡ end
-met area header f e w v = sym (e ∙ ap₂ (λ (w v : ℕ). walk_from desk_shape area f (bits w v)) w v)
+  last : (f : ℕ) (ks : List Key) → None ≡ walk desk_shape area (key_at header f) → from (key_at header f ∷ ks) ≡ None
+  unfolding from
+  last f ks e = ends_bad desk_shape area (key_at header f) ks (sym e)
 
-pub returns-in_default : goal.returns-in_default
-unfolding reached_all reached walk
-returns-in_default c =
-    let l = c.loop-f in
-    let a = c.args in
-    let area = a.area.now in
-    let header = a.header.now in
-    let damaged = met area header l.f c.go_down.ensures c.width_of-width.ensures.0 c.value_of-value.ensures.0 ∙ ap reached c.in_default.is in (
-      sym (fields_bad area header (take l.f l.records) l.f (omega arith) damaged) ∙ l.invariant.3,
-      l.invariant.2,
-    )
+  worse : (f : ℕ) (ks : List Key) {n : ℕ} → Some n ≡ walk desk_shape area (key_at header f) → from ks ≡ None → from (key_at header f ∷ ks) ≡ None
+  unfolding from
+  worse f ks {n} e = ends_worse desk_shape area (key_at header f) ks n (sym e)
 
-pub loop-f-preserved : goal.loop-f-preserved
-unfolding reached walk
-loop-f-preserved c =
-    let l = c.loop-f in
-    let a = c.args in
-    let area = a.area.now in
-    let header = a.header.now in
-    let n = c.in-Ends.row in
-    let reaches : reached c.go_down.result ≡ some n = ap reached c.in-Ends.is in
-    let path = bits c.width_of-width.result c.value_of-value.result in
-    let ended : walk_from desk_shape area l.f path ≡ some n = ◌∙◌ {a = walk_from desk_shape area l.f path} (sym c.go_down.ensures) reaches in
-    let inside : n < length area / record_words = walk_inside area path l.f n (omega arith) ended in
-    let more = ap (λ (j : ℕ). take j (set l.records l.f n)) (add-one l.f) ∙ take-suc-set l.records l.f n (omega arith) in (
-      omega arith,
-      length-set l.records l.f n ∙ l.invariant.1,
-      inside_set area l.records l.f n l.invariant.2 inside,
-      ap (λ (ns : List ℕ). joined ns (ends desk_shape area (drop (l.f + 1) (keys_of header)))) more
-          ∙ sym (fields_on area header (take l.f l.records) l.f n (omega arith) (met area header l.f c.go_down.ensures c.width_of-width.ensures.0 c.value_of-value.ensures.0 ∙ reaches))
-          ∙ l.invariant.3,
-    )
+  more : (f : ℕ) (ks : List Key) {n : ℕ} {ms : List ℕ} → Some n ≡ walk desk_shape area (key_at header f) → from ks ≡ Some ms → from (key_at header f ∷ ks) ≡ Some (n ∷ ms)
+  unfolding from
+  more f ks {n} {ms} e = ends_more desk_shape area (key_at header f) ks n ms (sym e)
 
-pub returns : goal.returns
-unfolding reached_all ends header_keys keys_from header_values
-returns c =
-    let l = c.loop-f in
-    let a = c.args in
-    let past : l.f ≡ 5 = omega arith in
-    let first = take l.f l.records in (
-      sym (ap some (append-nil first ∙ take_all l.f l.records (omega arith)))
-          ∙ ap (λ (f : ℕ). joined first (ends desk_shape a.area.now (drop f (keys_of a.header.now)))) (sym past)
-          ∙ l.invariant.3,
-      l.invariant.2,
-    )
+  done : from [] ≡ Some []
+  unfolding from ends
+  done = refl
+
+  -- of all five fields
+  told : {o : Option (List ℕ)} → from (key_at header 0 ∷ key_at header 1 ∷ key_at header 2 ∷ key_at header 3 ∷ key_at header 4 ∷ []) ≡ o → o ≡ ends desk_shape area (keys_of header)
+  unfolding from
+  told e = sym (ap (ends desk_shape area) (five_keys header) ∙ e)
+
+pub returns-in_err-source-clause-ends : goal.returns-in_err-source-clause-ends
+returns-in_err-source-clause-ends c = c.from_residual.ensures ∙ told _ _ (last _ _ 0 _ c.in_err-source.ensures.end)
+
+pub returns-in_err-destination-clause-ends : goal.returns-in_err-destination-clause-ends
+returns-in_err-destination-clause-ends c = c.from_residual-in_err-destination.ensures ∙ told _ _ (worse _ _ 0 _ c.in_ok-source.ensures.end (last _ _ 1 _ c.in_err-destination.ensures.end))
+
+pub returns-in_err-sport-clause-ends : goal.returns-in_err-sport-clause-ends
+returns-in_err-sport-clause-ends c = c.from_residual-in_err-sport.ensures ∙ told _ _ (worse _ _ 0 _ c.in_ok-source.ensures.end (worse _ _ 1 _ c.in_ok-destination.ensures.end (last _ _ 2 _ c.in_err-sport.ensures.end)))
+
+pub returns-in_err-dport-clause-ends : goal.returns-in_err-dport-clause-ends
+returns-in_err-dport-clause-ends c = c.from_residual-in_err-dport.ensures ∙ told _ _ (worse _ _ 0 _ c.in_ok-source.ensures.end (worse _ _ 1 _ c.in_ok-destination.ensures.end (worse _ _ 2 _ c.in_ok-sport.ensures.end (last _ _ 3 _ c.in_err-dport.ensures.end))))
+
+pub returns-in_err-protocol-clause-ends : goal.returns-in_err-protocol-clause-ends
+returns-in_err-protocol-clause-ends c = c.from_residual-in_err-protocol.ensures ∙ told _ _ (worse _ _ 0 _ c.in_ok-source.ensures.end (worse _ _ 1 _ c.in_ok-destination.ensures.end (worse _ _ 2 _ c.in_ok-sport.ensures.end (worse _ _ 3 _ c.in_ok-dport.ensures.end (last _ _ 4 _ c.in_err-protocol.ensures.end)))))
+
+pub returns-clause-ends : goal.returns-clause-ends
+returns-clause-ends c = told _ _ (more _ _ 0 _ c.in_ok-source.ensures.end (more _ _ 1 _ c.in_ok-destination.ensures.end (more _ _ 2 _ c.in_ok-sport.ensures.end (more _ _ 3 _ c.in_ok-dport.ensures.end (more _ _ 4 _ c.in_ok-protocol.ensures.end (done _ c.args.header.now))))))

@@ -1,21 +1,20 @@
--- `same_action` meets its contract: the action is in bytes 18 and 19, and a sound rule's is known.
-use mathlib.Core.Path.{sym, ap₂, ◌∙◌}
+-- `same_action` meets its contract: the test of two known actions is their equality.
+use mathlib.Core.Path.{◌≡◌, refl, sym, ap₂, ◌∙◌}
+use Rattle.std.specs.Prelude.{Some}
+use Rattle.rules.specs.declared.Action.{Action}
+use Rattle.rules.specs.declared.Action.TheVariants.{Hold, Deliver}
+use Rattle.rules.specs.contracts.ActionPartialEq.TheImpl.{ghosts}
 use Rattle.rules.specs.Action.{action_in, same_action}
-use Rattle.rules.proofs.TableLaws.{never_unknown}
 use Rattle.overlap.proofs.compare.same_action.Goals as goal
 
-pub returns-in_default : goal.returns-in_default
-unfolding action_in
-returns-in_default c =
-    absurd (never_unknown c.args.a.now c.requires.0.faultless (sym (c.decode.ensures) ∙ c.in_default.is))
-
-pub returns-in_default-decode : goal.returns-in_default-decode
-unfolding action_in
-returns-in_default-decode c =
-    absurd (never_unknown c.args.b.now c.requires.1.faultless (sym (c.decode-2.ensures) ∙ c.in_default-decode.is))
+known_same : (a b : Action) → ghosts.eq a b ≡ same_action (Some a) (Some b)
+unfolding same_action
+known_same Hold Hold = refl
+known_same Hold (Deliver g) = refl
+known_same (Deliver f) Hold = refl
+known_same (Deliver f) (Deliver g) = refl
 
 pub returns : goal.returns
 unfolding action_in
 returns c =
-    c.same_known.ensures
-    ∙ ap₂ same_action (sym c.in-Known.is ∙ (c.decode.ensures)) (sym c.in-Known-decode.is ∙ (c.decode-2.ensures))
+    c.eq.ensures ∙ known_same c.action.result c.action-2.result ∙ sym (ap₂ same_action c.action.ensures c.action-2.ensures)

@@ -1,13 +1,12 @@
 -- `clash` meets its contract: the two tests, one after the other.
-use mathlib.Core.Path.{sym}
 use Rattle.rules.specs.Rule.{rule_of}
 use Rattle.overlap.specs.Judge.{clashes}
 use Rattle.overlap.proofs.judge.clash.Goals as goal
 
-pub returns-then-not-shares : goal.returns-then-not-shares
-unfolding clashes
-returns-then-not-shares c = rw (sym c.if-not-shares.ensures)
-
-pub returns : goal.returns
+pub returns-then-shares : goal.returns-then-shares
 unfolding clashes rule_of
-returns c = rw (sym c.if-not-shares.ensures, c.same_action.ensures)
+returns-then-shares c = rw (← c.shares.ensures, ← c.same_action.ensures, c.if-shares.true)
+
+pub returns-else-shares : goal.returns-else-shares
+unfolding clashes
+returns-else-shares c = rw (← c.shares.ensures, c.if-shares.false)

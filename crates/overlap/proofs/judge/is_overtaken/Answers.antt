@@ -4,17 +4,20 @@ use lib.ListN.{get_or}
 use borrow.Author.Tests.{lt-ltb, le-ltb}
 use Rattle.overlap.specs.Judge.{clashes}
 use Rattle.overlap.specs.Obstacle.{overtaken_by}
+use Rattle.overlap.proofs.RecordLaws.{rule_at_lem}
 use Rattle.overlap.proofs.judge.is_overtaken.Goals as goal
 
-pub returns-then-places-lower : goal.returns-then-places-lower
+pub returns-then-places-higher : goal.returns-then-places-higher
 unfolding overtaken_by
-returns-then-places-lower c =
+returns-then-places-higher c =
     let a = c.args in
-    rw (le-ltb (get_or a.places.now a.higher 0) (get_or a.places.now a.lower 0) c.if-places-lower.true)
+    let t = a.table.bytes.now in
+    rw (lt-ltb (get_or a.places.now a.higher 0) (get_or a.places.now a.lower 0) c.if-places-higher.true)
+    (c.clash.ensures
+    ∙ ap₂ clashes (rule_at_lem t a.lower c.requires.1 _ c.record.ensures) (rule_at_lem t a.higher c.requires.2 _ c.record-then-places-higher.ensures))
 
-pub returns : goal.returns
+pub returns-else-places-higher : goal.returns-else-places-higher
 unfolding overtaken_by
-returns c =
+returns-else-places-higher c =
     let a = c.args in
-    rw (lt-ltb (get_or a.places.now a.higher 0) (get_or a.places.now a.lower 0) c.if-places-lower.false)
-    (c.clash.ensures ∙ ap₂ clashes c.rule_at.ensures.1 c.rule_at-2.ensures.1)
+    rw (le-ltb (get_or a.places.now a.higher 0) (get_or a.places.now a.lower 0) c.if-places-higher.false)

@@ -10,8 +10,5 @@ use Rattle.overlap.proofs.moves.write_moved.Given as goal
 
 abbrev pub invariant-loop-place : goal.invariant-loop-place
 invariant-loop-place l =
-    (l.place-end ≡ length l.order)
-    × (l.place ≤ l.place-end)
-    × (l.place-end * record_size ≤ length l.initial.output)
-    × (l.output ≡ moved_table l.table (take l.place l.order) ++ drop (l.place * record_size) l.initial.output)
-    × (length l.output ≡ length l.initial.output)
+    (length l.order * record_size ≤ length l.initial.output)
+    × (l.output ≡ moved_table l.table.bytes.now (take l.place l.order) ++ drop (l.place * record_size) l.initial.output)

@@ -1,34 +1,34 @@
--- `count_pairs` meets its contract. The loop's invariant: what was found and what is left to find are all listed pairs; no row has more
--- than 256, so the sum fits.
-use mathlib.Core.Path.{ap}
+-- `count_pairs` meets its contract: the rows' numbers make up that of all pairs, of which there are few.
+use mathlib.Core.Path.{◌≡◌, ap, ◌∙◌}
 use mathlib.Core.List.{List}
-use Prim.Native.Nat.{ℕ, ◌+◌, ◌-◌, ◌≤◌, ◌<◌}
+use Prim.Native.Nat.{ℕ, ◌^◌, ◌<◌}
 use native.Mathlib.Omega.{arith}
-use lib.ListN.{length, length-append}
-use Rattle.rules.specs.Table.{rule_count, Accepted}
+use lib.ListN.{length}
+use Rattle.std.specs.List.{range_with_len, sum_by}
+use Rattle.std.proofs.Common.{rules, tests}
+use Rattle.std.proofs.lemmas.Iterator.{YieldsList-from_range, YieldsList-from_map}
+use Rattle.std.proofs.lemmas.Iterator.Consumers.{sum_by_from_yields_List, fits_by_from_yields_list}
+use Rattle.rules.specs.Table.{rule_count, rules_of, Accepted}
+use Rattle.overlap.specs.Pairs.{pairs_of}
 use Rattle.overlap.specs.Steps.{listed_with}
-use Rattle.rules.proofs.TableLaws.{accepted_sound}
-use Rattle.overlap.proofs.LoopLaws.{rows_parts, rows_done, rows_all, row_few}
+use Rattle.overlap.proofs.LoopLaws.{rows_counted, rows_all, pairs_few}
 use Rattle.overlap.proofs.pairs.count_pairs.Goals as goal
 
-pub loop-lower-init : goal.loop-lower-init
-loop-lower-init c = omega (arith, ap length (rows_all c.args.table.now))
+-- the numbers of all rows
+counted : (table : List ℕ) → sum_by (λ lower. length (listed_with table lower)) (range_with_len 0 (rule_count table)) ≡ length (pairs_of (rules_of table))
+counted table = rows_counted table 0 (rule_count table) (omega arith) ∙ ap length (rows_all table)
 
--- a row has no more pairs than the table has rules
-few : (table : List ℕ) (lower : ℕ) → Accepted table → lower < rule_count table
-    → (length (listed_with table lower) ≤ 256) × (lower < 256)
-few table lower accepted h =
-    let n = rule_count table - (lower + 1) in
-    omega (arith, row_few table lower (lower + 1) n, (accepted_sound table accepted).few)
+fits : (table : List ℕ) → Accepted table → sum_by (λ lower. length (listed_with table lower)) (range_with_len 0 (rule_count table)) < 2 ^ 64
+fits table accepted = omega (arith, counted table, pairs_few table accepted)
 
-pub overflow_add-found : goal.overflow_add-found
-overflow_add-found c = omega (arith, c.count_row-found.ensures, few c.args.table.now c.loop-lower.lower c.requires (omega arith))
-
-pub loop-lower-preserved : goal.loop-lower-preserved
-loop-lower-preserved c =
-    let table = c.args.table.now in
-    omega (arith, few c.args.table.now c.loop-lower.lower c.requires (omega arith), c.count_row-found.ensures, simp length-append at (ap length (rows_parts table c.loop-lower.lower (omega arith))))
+pub sum-requires-clause-fits : goal.sum-requires-clause-fits
+sum-requires-clause-fits c =
+    fits_by_from_yields_list (λ lower. length (listed_with c.args.table.bytes.now lower)) (range_with_len 0 (rule_count c.args.table.bytes.now)) c.map.result _
+    (YieldsList-from_map _ (λ lower. length (listed_with c.args.table.bytes.now lower)) (YieldsList-from_range 0 c.len.result (rule_count c.args.table.bytes.now) c.map.ensures.source (omega (arith, c.len.ensures.0))) c.map.ensures.closure (λ x r q k. search (rules, tests)))
+    (fits c.args.table.bytes.now c.args.table.accepted)
 
 pub returns : goal.returns
 returns c =
-    omega (arith, ap length (rows_done c.args.table.now c.loop-lower.lower (omega arith)))
+    sum_by_from_yields_List (λ lower. length (listed_with c.args.table.bytes.now lower)) (range_with_len 0 (rule_count c.args.table.bytes.now)) c.map.result c.sum.result c.sum.ensures.ran
+    (YieldsList-from_map _ (λ lower. length (listed_with c.args.table.bytes.now lower)) (YieldsList-from_range 0 c.len.result (rule_count c.args.table.bytes.now) c.map.ensures.source (omega (arith, c.len.ensures.0))) c.map.ensures.closure (λ x r q k. search (rules, tests)))
+    ∙ counted c.args.table.bytes.now

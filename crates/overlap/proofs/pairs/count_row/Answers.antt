@@ -1,23 +1,22 @@
--- `count_row` meets its contract. The loop's invariant: what was found and what is left to find are the row's listed pairs.
+-- `count_row` meets its contract: the places whose rules are listed with the row's.
 use mathlib.Core.Path.{sym, ap, ◌∙◌}
+use Prim.Native.Nat.{ℕ, ◌+◌, ◌-◌}
 use native.Mathlib.Omega.{arith}
-use lib.ListN.{length, length-append}
-use Rattle.overlap.proofs.LoopLaws.{row_parts, row_done, one_listed, none_listed}
+use Rattle.std.proofs.Common.{rules, tests}
+use Rattle.std.proofs.lemmas.Iterator.{YieldsList-from_range}
+use Rattle.std.proofs.lemmas.Iterator.Consumers.{YieldsList-from_filter, count_from_yields_List}
+use Rattle.rules.specs.Rule.{rule_of}
+use Rattle.rules.specs.Table.{rule_count, record_at}
+use Rattle.overlap.specs.Pairs.{listed}
+use Rattle.overlap.proofs.LoopLaws.{row_counted}
+use Rattle.overlap.proofs.RecordLaws.{rule_at_lem}
 use Rattle.overlap.proofs.pairs.count_row.Goals as goal
-use Rattle.overlap.proofs.pairs.count_row.Goals.{then-is_listed, else-is_listed}
-
-pub loop-higher-preserved : goal.loop-higher-preserved
-loop-higher-preserved c =
-    let a = c.args in
-    let table = a.table.now in
-    let turn = simp length-append at (ap length (row_parts table a.lower c.loop-higher.higher (omega arith))) in
-    let is = sym c.is_listed.ensures in
-    elim c.if-is_listed.branch [
-      | then-is_listed w ↦ omega (arith, turn, c.loop-higher.invariant.3, ap length (one_listed table a.lower c.loop-higher.higher (is ∙ w.if-is_listed.true)))
-      | else-is_listed w ↦ omega (arith, turn, c.loop-higher.invariant.3, ap length (none_listed table a.lower c.loop-higher.higher (is ∙ w.if-is_listed.false)))
-    ]
 
 pub returns : goal.returns
 returns c =
-    let a = c.args in
-    omega (arith, c.loop-higher.invariant.3, ap length (row_done a.table.now a.lower c.loop-higher.higher (omega arith)))
+    count_from_yields_List c.filter.result c.count.result c.count.ensures.ran
+    (YieldsList-from_filter _ (λ higher. listed (rule_of c.record-rule.result.bytes.now) (rule_of (record_at c.args.table.bytes.now higher)))
+    (YieldsList-from_range (c.args.lower + 1) c.len.result (rule_count c.args.table.bytes.now - (c.args.lower + 1)) c.filter.ensures.source (ap (λ (n : ℕ). n - (c.args.lower + 1)) c.len.ensures.0)) c.filter.ensures.closure (λ x b q k. search (rules, tests)))
+    ∙ sym
+    (row_counted c.args.table.bytes.now (rule_of c.record-rule.result.bytes.now) c.args.lower (c.args.lower + 1) _
+    (rule_at_lem c.args.table.bytes.now c.args.lower c.requires _ c.record-rule.ensures) (omega arith))

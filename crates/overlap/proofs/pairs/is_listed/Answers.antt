@@ -1,21 +1,23 @@
--- `is_listed` meets its contract: the three tests, one after another, of the rules at the two places.
-use mathlib.Core.Path.{sym}
+-- `is_listed` meets its contract: the three tests, one after another.
+use mathlib.Core.Path.{sym, ◌∙◌}
+use mathlib.Core.Bool.{true≢false}
 use Rattle.overlap.specs.Pairs.{listed}
 use Rattle.overlap.proofs.pairs.is_listed.Goals as goal
+use Rattle.overlap.proofs.pairs.is_listed.Goals.{then-shares, else-shares}
 
-pub returns-then-not-shares : goal.returns-then-not-shares
+pub returns-then-not-covers : goal.returns-then-not-covers
 unfolding listed
-returns-then-not-shares c =
-    rw (← c.rule_at-a.ensures.1, ← c.rule_at-b.ensures.1, sym c.if-not-shares.ensures)
+returns-then-not-covers c =
+    rw (← c.covers-then-not-covers.ensures)
+    (elim c.if-shares.branch [
+      | then-shares w ↦ rw (← c.shares.ensures, w.if-shares.true, ← w.covers.ensures, sym w.value-is ∙ c.if-not-covers.true)
+      | else-shares w ↦ absurd (true≢false (sym c.if-not-covers.true ∙ w.value-is ∙ w.if-shares.false))
+    ])
 
-pub returns-then-covers : goal.returns-then-covers
+pub returns-else-not-covers : goal.returns-else-not-covers
 unfolding listed
-returns-then-covers c =
-    let shared = sym c.if-not-shares.ensures in
-    rw (← c.rule_at-a.ensures.1, ← c.rule_at-b.ensures.1, shared, sym c.if-covers.ensures)
-
-pub returns : goal.returns
-unfolding listed
-returns c =
-    let shared = sym c.if-not-shares.ensures in
-    rw (← c.rule_at-a.ensures.1, ← c.rule_at-b.ensures.1, shared, sym c.if-covers.ensures, c.covers-2.ensures)
+returns-else-not-covers c =
+    elim c.if-shares.branch [
+      | then-shares w ↦ rw (← c.shares.ensures, w.if-shares.true, ← w.covers.ensures, sym w.value-is ∙ c.if-not-covers.false) c.if-not-covers.false
+      | else-shares w ↦ rw (← c.shares.ensures, w.if-shares.false) c.if-not-covers.false
+    ]

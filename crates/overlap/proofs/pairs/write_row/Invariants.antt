@@ -1,7 +1,6 @@
 -- `write_row` meets its contract. The loop's invariant: the words of the pairs that are left, written here, are the row's at the start.
-use mathlib.Core.Path.{◌≡◌}
 use mathlib.Core.List.{List}
-use Prim.Native.Nat.{ℕ, ◌+◌, ◌-◌, ◌≤◌}
+use Prim.Native.Nat.{ℕ, ◌+◌, ◌-◌}
 use Rattle.bits.proofs.WritingLaws.{Leaves}
 use Rattle.rules.specs.Table.{rule_count}
 use Rattle.overlap.specs.Pairs.{entries}
@@ -13,7 +12,4 @@ abbrev pub words : List ℕ → ℕ → ℕ → List ℕ
 words table i j = entries (listed_row table i j (rule_count table - j))
 
 abbrev pub invariant-loop-higher : goal.invariant-loop-higher
-invariant-loop-higher l =
-    (l.higher-end ≡ rule_count l.table)
-    × (l.higher ≤ l.higher-end)
-    × Leaves l.initial.list l.start (words l.table l.lower (l.lower + 1)) l.list l.at (words l.table l.lower l.higher)
+invariant-loop-higher l = Leaves l.initial.list 0 (words l.table.bytes.now l.lower (l.lower + 1)) l.list l.at (words l.table.bytes.now l.lower l.higher)
