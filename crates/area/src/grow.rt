@@ -14,7 +14,8 @@ pub fn clear(area: &mut [u32], start: usize, end: usize)
     area[start..end].fill(0);
 }
 
-// An area whose records grow: its first `next` records are made, and each one's children are among them.
+// An area whose records grow: its first `next` records are made, and each one's children are among them. That the words are the ones
+// that were lent (`same_words`) and have room for what is to come (`HasRoom`) stands at each method: an invariant knows one value alone.
 #[derive(Drop)]
 pub struct Growth<'a> {
     pub words: &'a mut [u32],
@@ -64,14 +65,14 @@ impl Growth<'_> {
         ensures moved { standing self.new result ≡ walked prefix.width prefix.value prefix.len (standing self.old root) }
     {
         let mut at = root;
-        // By number: a bit's number is what is asked of the prefix.
+        // By number: an iterator over a prefix's bits would be a type with laws of its own, for two loops.
         for j in 0..prefix.len {
             at = self.step(at, prefix.bit(j));
         }
         at
     }
 
-    // A rule's bit in the vector of record `at`.
+    // A rule's bit in the vector of record `at`. The rule stays a number below 256: it is divided into a word and a bit.
     fn set_bit(&mut self, at: usize, rule: usize)
         requires { (at < self.old.next) × (rule < 256) }
         ensures same_words { self.new.words.ghost_name ≡ self.old.words.ghost_name }

@@ -7,7 +7,7 @@ ghost use Rattle.area.specs.Hand.{joined, to_child, handed};
 
 use crate::{RECORD_WORDS, VECTOR_START, vector};
 
-// Record k's vector goes into record c's.
+// Record k's vector goes into record c's. By place: of words that an iterator lends to be written nothing is said afterwards.
 fn or_into(area: &mut [u32], k: usize, c: usize)
     requires { (record_words * k + record_words ≤ length area.old) × (record_words * c + record_words ≤ length area.old) }
     ensures { area.new ≡ joined k c area.old }

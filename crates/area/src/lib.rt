@@ -1,5 +1,6 @@
 // What the build does to the words of a lent area, one pass at a time. A record is 11 words: child
-// for bit 0, child for bit 1, aggregate, eight vector words. Nothing here knows a rule table.
+// for bit 0, child for bit 1, aggregate, eight vector words; child 0 is none. Records are named by number and not boxed: the words are
+// lent, 01 fixes each of them, and there is no heap. Nothing here knows a rule table.
 #![tactic(auto)]
 
 ghost use Rattle.std.specs.Prelude.{◌≡◌, ◌+◌, ◌*◌, ◌≤◌, length, slice_range};

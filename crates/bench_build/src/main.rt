@@ -28,9 +28,7 @@ fn measure(
     area: &mut [u32],
 ) -> io::Result<()> {
     let rules = table.len() / RECORD_BYTES;
-    let start = trial::clock(rt)?;
-    build_often(table, area);
-    let time = trial::since(rt, start)?;
+    let time = trial::timed(rt, || build_often(table, area))?;
     eprintln!(rt; "{rules} rules, microseconds for 100 builds: {time}")?;
     println!(rt;
         "{rules} rules, words: {}",

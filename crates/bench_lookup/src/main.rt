@@ -6,7 +6,6 @@ use lookup::Outcome;
 use rules::{HEADER_BYTES, MOST_RULES, RecordBytes};
 use samples::{Pattern, TABLE_BYTES};
 use std::io;
-use std::time::CpuClock;
 
 fn main(rt: HostRuntime) -> io::Result<()> {
     let mut table = [0; TABLE_BYTES];
@@ -15,24 +14,21 @@ fn main(rt: HostRuntime) -> io::Result<()> {
     if let Ok(words) = desk::build(&table, &mut area) {
         println!(rt; "256 rules, words: {words}")?;
     }
-    let start = trial::clock(&rt)?;
-    let matches = count_matches(&table, &area);
-    let time = trial::since(&rt, start)?;
+    let mut matches = 0;
+    let time = trial::timed(&rt, || matches = count_matches(&table, &area))?;
     eprintln!(rt; "microseconds for 1000000 lookups: {time}")?;
     println!(rt; "1000000 lookups, matches: {matches}")
 }
 
 fn count_matches(table: &[u8; TABLE_BYTES], area: &[u32]) -> usize {
     let mut header = [0; HEADER_BYTES];
-    let mut matches = 0;
-    for turn in 0..1000000 {
-        change(table, &mut header, turn);
-        let answer = desk::lookup(table, area, &header);
-        if answer.is_ok_and(|found| matches!(found.outcome, Outcome::Match(..))) {
-            matches += 1;
-        }
-    }
-    matches
+    (0..1000000)
+        .filter(|turn| {
+            change(table, &mut header, *turn);
+            let answer = desk::lookup(table, area, &header);
+            answer.is_ok_and(|found| matches!(found.outcome, Outcome::Match(..)))
+        })
+        .count()
 }
 
 // The next header: in even turns that of some rule; in odd turns the last one, with other bytes in both addresses. Two bytes that the rules

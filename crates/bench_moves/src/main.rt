@@ -18,13 +18,22 @@ fn main(rt: HostRuntime) -> io::Result<()> {
         &table[..128 * RECORD_BYTES],
         &table[..],
     ];
+    pair_lists(&rt, &parts)?;
+    judgements(&rt, &parts)
+}
+
+fn pair_lists(rt: &(impl Print + Eprint + CpuClock), parts: &[&[u8]]) -> io::Result<()> {
     let mut list = [0; ENTRIES];
     for part in parts {
-        measure_pairs(&rt, part, &mut list)?;
+        measure_pairs(rt, part, &mut list)?;
     }
+    Ok(())
+}
+
+fn judgements(rt: &(impl Print + Eprint + CpuClock), parts: &[&[u8]]) -> io::Result<()> {
     let mut output = [0; TABLE_BYTES];
     for part in parts {
-        measure_judgement(&rt, part, &mut output)?;
+        measure_judgement(rt, part, &mut output)?;
     }
     Ok(())
 }
@@ -35,9 +44,7 @@ fn measure_pairs(
     list: &mut [u16],
 ) -> io::Result<()> {
     let rules = table.len() / RECORD_BYTES;
-    let start = trial::clock(rt)?;
-    list_often(table, list);
-    let time = trial::since(rt, start)?;
+    let time = trial::timed(rt, || list_often(table, list))?;
     eprintln!(rt; "{rules} rules, microseconds for 20 pair lists: {time}")?;
     println!(rt;
         "{rules} rules, pairs: {}",
@@ -61,9 +68,7 @@ fn measure_judgement(
     let mut order = [0; MOST_RULES];
     let order = &mut order[..rules.min(MOST_RULES)];
     samples::reverse(order);
-    let start = trial::clock(rt)?;
-    judge_often(table, order, output);
-    let time = trial::since(rt, start)?;
+    let time = trial::timed(rt, || judge_often(table, order, output))?;
     eprintln!(rt; "{rules} rules, microseconds for 20 judgements: {time}")?;
     let allowed = desk::judge(table, order, output).is_ok();
     println!(rt; "{rules} rules, allowed: {}", u8::from(allowed))

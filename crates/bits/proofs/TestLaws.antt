@@ -7,11 +7,9 @@ use mathlib.Core.List.{List, [], ◌∷◌}
 use Rattle.std.specs.Prelude.{Option, None, Some}
 use Prim.Native.Nat.{ℕ, zero, suc, ◌+◌, ◌≤◌, ◌<◌}
 use native.Mathlib.Nat.{le_of_suc-le-suc, eq-or-lt_of_le}
-use native.Mathlib.Numerals.{add-one}
 use native.Mathlib.Omega.{arith}
 use lib.Dec.{eqb, ltb}
-use lib.ListN.{length, get_or, drop}
-use lib.Seq.{drop-cons}
+use lib.ListN.{length, get_or}
 use borrow.Author.Tests.{eqb-true, eq-eqb, ltb-true, ltb-false}
 use Rattle.bits.specs.Tests.{any, all, up_from, lowest, count}
 
@@ -71,17 +69,6 @@ on_bit P p q (suc (suc a)) h = absurd (omega arith)
 
 pub on_bits : (P : ℕ → ℕ → Type 0) → P 0 0 → P 0 1 → P 1 0 → P 1 1 → (a b : ℕ) → a < 2 → b < 2 → P a b
 on_bits P p q r s a b ha hb = on_bit (λ (x : ℕ). P x b) (on_bit (P 0) p q b hb) (on_bit (P 1) r s b hb) a ha
-
--- ---- what is left of a list, from a place on
-
-module _ {A : Type 0} (test : A → Bool) (l : List A) (d : A) (k : ℕ) (inside : k < length l) where
-  pub any_from : any test (drop k l) ≡ (test (get_or l k d) || any test (drop (k + 1) l))
-  unfolding any
-  any_from = rw (add-one k, drop-cons l k d inside)
-
-  pub all_from : all test (drop k l) ≡ (test (get_or l k d) && all test (drop (k + 1) l))
-  unfolding all
-  all_from = rw (add-one k, drop-cons l k d inside)
 
 -- where no element passes, none passes at a place
 pub none_at : {A : Type 0} (test : A → Bool) (l : List A) (d : A) (k : ℕ) → any test l ≡ false → k < length l → test (get_or l k d) ≡ false

@@ -7,4 +7,4 @@ mod prefixes;
 
 pub use masks::mask;
 pub use numbers::number_at;
-pub use prefixes::Prefix;
+pub use prefixes::{Prefix, bit_of};

@@ -1,5 +1,6 @@
 // A prefix of a value. One type serves the widths 8, 16 and 32 alike: a value of `width` bits stands in the low bits of
-// a u32, and its prefix of `len` bits is the top ones of those.
+// a u32, and its prefix of `len` bits is the top ones of those. The width is a value and no const parameter, since it is looked up by
+// a field's number; so two prefixes are asked to have the same.
 ghost use Rattle.std.specs.Prelude.{◌≡◌, ◌+◌, ◌^◌, ◌≤◌, ◌<◌};
 ghost use Rattle.std.specs.Int.Bits.{bit_xor};
 ghost use Rattle.bits.specs.Path.{bits, prefix, leads, stray, cut, bit_of, common};
@@ -18,7 +19,7 @@ pub struct Prefix {
 
 impl Prefix {
     // A value of the same width, with the bits after the prefix's length cleared.
-    fn cut(self, value: u32) -> u32
+    pub fn cut(self, value: u32) -> u32
         requires { value < 2 ^ self.width }
         ensures { result ≡ cut self.width value self.len }
     {
@@ -45,7 +46,7 @@ impl Prefix {
         requires { j < self.width }
         ensures { result ≡ bit_of self.width self.value j }
     {
-        ((self.value >> (self.width - 1 - j)) % 2) as usize
+        bit_of(self.value, self.width, j)
     }
 
     // The number of leading bits that the two values have in common: the leading zeros of the bits in which they differ, less
@@ -54,7 +55,7 @@ impl Prefix {
         requires { other.width ≡ self.width }
         ensures { result ≡ common (bits self.width self.value) (bits self.width other.value) }
     {
-        u32::leading_zeros(differing(self.value, other.value)) as usize - (32 - self.width)
+        differing(self.value, other.value).leading_zeros() as usize - (32 - self.width)
     }
 
     // The length of the longest leading part that two prefixes have in common: never more than either length.
@@ -62,8 +63,17 @@ impl Prefix {
         requires { other.width ≡ self.width }
         ensures { result ≡ common (prefix self.width self.value self.len) (prefix other.width other.value other.len) }
     {
-        self.same_leading(other).min(self.len.min(other.len))
+        let same = self.same_leading(other);
+        same.min(self.len.min(other.len))
     }
+}
+
+// Bit j of a value, from the top of a width; the value may have bits above it.
+pub fn bit_of(value: u32, width: usize, j: usize) -> usize
+    requires { (j < width) × (width ≤ 32) }
+    ensures { result ≡ bit_of width value j }
+{
+    ((value >> (width - 1 - j)) % 2) as usize
 }
 
 // The word of bits in which two values differ. Their difference would not do: 8 less 7 is 1, and

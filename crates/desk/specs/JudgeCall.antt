@@ -1,8 +1,7 @@
 -- Judging a proposed order, and writing the moved table where it is allowed.
 -- Assumes nothing.
 use Rattle.rules.specs.declared.Refusal.{Refusal}
-use Rattle.std.specs.Prelude.{◌≡◌, cond, List, [], ◌∷◌, ◌++◌, ℕ, ltb, length, drop, Result}
-use Rattle.std.specs.Prelude.{Option, None, Some}
+use Rattle.std.specs.Prelude.{◌≡◌, cond, List, [], ◌∷◌, ◌++◌, ℕ, ltb, length, drop, Result, Option, None, Some}
 use Rattle.rules.specs.Rule.{Rule}
 use Rattle.rules.specs.Match.{rule_at}
 use Rattle.rules.specs.Overlap.{lowest_shared}

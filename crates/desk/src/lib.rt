@@ -66,7 +66,7 @@ pub fn judge(table: &[u8], order: &[u16], output: &mut [u8]) -> Result<(), Refus
 }
 
 // The rule at a place: the record's own 24 bytes as a part of the table, or an empty part where no
-// whole record stands there.
+// whole record stands there: an empty part and no Option, as 01 has it.
 pub fn show(table: &[u8], place: usize) -> &[u8]
     ensures { Shows table.now place result.now }
 {

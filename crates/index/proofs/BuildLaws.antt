@@ -16,7 +16,7 @@ use Rattle.bits.proofs.TestLaws.{less}
 use Rattle.bits.proofs.EachLaws.{by_places}
 use Rattle.bits.proofs.PlaceLaws.{places_agree}
 use Rattle.rules.specs.Rule.{Rule}
-use Rattle.rules.specs.Table.{rule_count, rules_of, Accepted}
+use Rattle.rules.specs.Table.{rule_count, rules_of}
 use Rattle.area.specs.Shape.{blocks, desk_shape, record_words, vector_start}
 use Rattle.area.specs.Grow.{State, mk, Kids, Roomy}
 use Rattle.area.specs.Hand.{vector_word, child_word, handed}
@@ -27,7 +27,7 @@ use Rattle.index.specs.Key.{Key}
 use Rattle.index.specs.Keys.{keys}
 use Rattle.index.specs.Image.{child, vector, record_of, image}
 use Rattle.index.specs.Need.{records, need}
-use Rattle.index.specs.Steps.{all_in}
+use Rattle.index.specs.Steps.{AllSound, all_in}
 use Rattle.index.proofs.KeyLaws.{stands_here}
 use Rattle.index.proofs.CountLaws.{records_law}
 use Rattle.index.proofs.VectorLaws.{length_vector}
@@ -38,7 +38,7 @@ use Rattle.index.proofs.Growth.{all_between}
 use Rattle.index.proofs.ForestLaws.{key_of, kid, forest}
 use Rattle.index.proofs.WholeLaws.{whole_vector}
 
-module _ (table : List ℕ) (accepted : Accepted table) (a₀ : List ℕ) (room : need desk_shape (rules_of table) ≤ length a₀) where
+module _ (table : List ℕ) (sound : AllSound table) (few : rule_count table ≤ 256) (a₀ : List ℕ) (room : need desk_shape (rules_of table) ≤ length a₀) where
   abbrev rules : List Rule
   rules = rules_of table
 
@@ -60,7 +60,7 @@ module _ (table : List ℕ) (accepted : Accepted table) (a₀ : List ℕ) (room 
   grown_area = (all_in table a₀).area
 
   between : Between (rule_count table) a₀ ks (marks_to table (rule_count table)) (all_in table a₀)
-  between = all_between table accepted a₀ (omega (arith, whole))
+  between = all_between table sound few a₀ (omega (arith, whole))
 
   trees : Forest grown_area count
   trees = forest (rule_count table) rules (marks_to table (rule_count table)) a₀ grown_area between.recorded (omega (arith, whole))

@@ -17,10 +17,9 @@ use Rattle.bits.specs.Tests.{any, up_from}
 use Rattle.bits.proofs.DigitLaws.{digit_small, prefix_bit}
 use Rattle.rules.specs.Field.{field_at, value_in, length_in}
 use Rattle.rules.specs.Rule.{Rule}
-use Rattle.rules.specs.Table.{rule_count, record_at, rules_of, Accepted, SoundRule}
+use Rattle.rules.specs.Table.{rule_count, record_at, rules_of, SoundRule}
 use Rattle.rules.specs.Match.{rule_at}
 use Rattle.rules.proofs.RuleLaws.{length_fits}
-use Rattle.rules.proofs.TableLaws.{accepted_sound, accepted_record}
 use Rattle.rules.proofs.MatchLaws.{rules_size}
 use Rattle.area.specs.Shape.{record_words, vector_start}
 use Rattle.area.specs.Upto.{upto}
@@ -29,7 +28,7 @@ use Rattle.area.proofs.ZeroLaws.{length_zeroed, zeroed_inside, zeroed_above}
 use Rattle.index.specs.Key.{Key, at}
 use Rattle.index.specs.Keys.{insert, insert_all, rule_inserts, inserts, roots_from, keys}
 use Rattle.index.specs.Image.{child}
-use Rattle.index.specs.Steps.{path_of, field_in, rule_in, rules_in, cleared, all_in}
+use Rattle.index.specs.Steps.{AllSound, path_of, field_in, rule_in, rules_in, cleared, all_in}
 use Rattle.index.proofs.KeyLaws.{further, place_out}
 use Rattle.index.proofs.GrownLaws.{insert_all_append, insert_le, insert_all_le, roots_rooted}
 use Rattle.index.proofs.ReachLaws.{below_beyond, roots_has_record}
@@ -124,7 +123,7 @@ module _ (n : ℕ) (a₀ : List ℕ) (ks : List Key) (marks : List Mark) (s : St
 
 -- ---- all rules
 
-module _ (table : List ℕ) (accepted : Accepted table) (a₀ : List ℕ) where
+module _ (table : List ℕ) (sound : AllSound table) (few : rule_count table ≤ 256) (a₀ : List ℕ) where
   abbrev n : ℕ
   n = rule_count table
 
@@ -198,7 +197,7 @@ module _ (table : List ℕ) (accepted : Accepted table) (a₀ : List ℕ) where
         omega (arith, room, keys_to_le (suc i) h, ap length more, ap length keys_to_all)
         in
         let S = upto (λ i. rule_in (record_at table i) i) i (cleared a₀) in
-        let next = rule_between n a₀ (keys_to i) (marks_to table i) S so_far i h (accepted_sound table accepted).few bytes (accepted_record table accepted i h) fits in
+        let next = rule_between n a₀ (keys_to i) (marks_to table i) S so_far i h few bytes (sound.each i h) fits in
         subst (λ (l : List Key). Between n a₀ l (marks_to table i ++ marks_of i (rule_inserts 0 5 (rule_at (rules_of table) i))) (rule_in bytes i S)) (sym more)
         (subst (λ (l : List Key). Between n a₀ (insert_all (keys_to i) (one_each (path_of bytes) 0 5)) (marks_to table i ++ marks_of i l) (rule_in bytes i S)) (sym here) next)
 

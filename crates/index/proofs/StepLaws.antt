@@ -7,7 +7,7 @@ use native.Mathlib.Omega.{arith}
 use lib.ListN.{length}
 use Rattle.rules.specs.Field.{field_at, value_in, length_in}
 use Rattle.rules.specs.Table.{rule_count, record_at, Accepted}
-use Rattle.rules.proofs.TableLaws.{accepted_sound}
+use Rattle.rules.proofs.TableLaws.{accepted_sound, accepted_record}
 use Rattle.bits.specs.declared.prefixes.Prefix.{Prefix}
 use Rattle.area.specs.declared.grow.Growth.{Growth}
 use Rattle.area.specs.Growing.{standing, HasRoom, IsGrown}
@@ -16,7 +16,7 @@ use Rattle.area.specs.Upto.{upto}
 use Rattle.area.specs.Grow.{zeroed, State, mk, walked, inserted, Kids, Ready, Roomy}
 use Rattle.area.proofs.ZeroLaws.{length_zeroed, zeroed_inside}
 use Rattle.area.proofs.GrowLaws.{walked_good, bit_kids, bit_length, growth_ready, StateKept, Good, upto_good, turn}
-use Rattle.index.specs.Steps.{field_in, rule_in, rules_in, cleared, all_in}
+use Rattle.index.specs.Steps.{AllSound, field_in, rule_in, rules_in, cleared, all_in}
 
 -- a field's root may be stood at
 pub field_start : (s : State) (f : ℕ) → f < 5 → Ready s → Ready (mk s.area f s.next)
@@ -51,8 +51,8 @@ pub rule_good : (bytes : List ℕ) (i : ℕ) → i < 256 → Good (rule_in bytes
 unfolding rule_in
 rule_good bytes i hi = upto_good (field_in bytes i) 5 (λ f hf. field_good bytes i f hi hf)
 
-pub rules_good : (table : List ℕ) → Accepted table → (i : ℕ) → i < rule_count table → Good (rule_in (record_at table i) i)
-rules_good table accepted i hi = rule_good (record_at table i) i (omega (arith, (accepted_sound table accepted).few))
+pub rules_good : (table : List ℕ) → rule_count table ≤ 256 → (i : ℕ) → i < rule_count table → Good (rule_in (record_at table i) i)
+rules_good table h i hi = rule_good (record_at table i) i (omega arith)
 
 -- ---- a growing area
 
@@ -91,21 +91,27 @@ roots_ready a words h e = rw e (cleared_ready a h).ready
 
 -- ---- all rules of a table
 
-module _ (table : List ℕ) (accepted : Accepted table) (a : List ℕ) (room : Roomy (all_in table a) (length a)) where
-  -- room for all has room for the roots
-  pub room_roots : 5 * record_words ≤ length a
-  unfolding all_in rules_in cleared
-  room_roots = omega (arith, (upto_good (λ i. rule_in (record_at table i) i) (rule_count table) (rules_good table accepted)).more (cleared a), room.room)
+-- room for all has room for the roots
+pub room_roots : (table a : List ℕ) (m : ℕ) → rule_count table ≤ 256 → Roomy (all_in table a) m → 5 * record_words ≤ m
+unfolding all_in rules_in cleared
+room_roots table a m h r =
+    omega (arith, (upto_good (λ i. rule_in (record_at table i) i) (rule_count table) (rules_good table h)).more (cleared a), r.room)
 
-  -- and where the roots are cleared, there is still room for all
-  pub all_start : (g : Growth) → standing g 0 ≡ cleared a → HasRoom g (rules_in table (rule_count table) (standing g 0))
-  unfolding all_in
-  all_start g rooted =
-      let same : length g.words.now ≡ length a = ap (λ (s : State). length s.area) rooted ∙ (cleared_ready a room_roots).long in
-      rw same (rw rooted room)
+-- and where the roots are cleared, there is still room for all
+pub all_start : (table a : List ℕ) → rule_count table ≤ 256 → Roomy (all_in table a) (length a)
+    → (g : Growth) → standing g 0 ≡ cleared a → HasRoom g (rules_in table (rule_count table) (standing g 0))
+unfolding all_in
+all_start table a h r g rooted =
+    let big = room_roots table a (length a) h r in
+    let same : length g.words.now ≡ length a = ap (λ (s : State). length s.area) rooted ∙ (cleared_ready a big).long in
+    rw same (rw rooted r)
 
 -- that is how an area grows, whose words in the end are those of the growing one
 pub all_grown : (table a : List ℕ) (g h : Growth) → standing g 0 ≡ cleared a → standing h 0 ≡ rules_in table (rule_count table) (standing g 0)
     → (words : List ℕ) → words ≡ h.words.now → mk words 0 h.next ≡ all_in table a
 unfolding all_in
 all_grown table a g h rooted grown words same = ap (λ (l : List ℕ). mk l 0 h.next) same ∙ grown ∙ ap (rules_in table (rule_count table)) rooted
+
+-- what these laws and those of the build ask of a table: an accepted one has it
+pub all_sound : (table : List ℕ) → Accepted table → AllSound table × (rule_count table ≤ 256)
+all_sound table ok = (record { each = accepted_record table ok }, (accepted_sound table ok).few)

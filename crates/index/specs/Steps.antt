@@ -1,13 +1,17 @@
 -- What the inner loops of sizing and writing do, for their contracts. No public statement cites these: proofs/BuildLaws.antt joins them
 -- to the image.
 -- Assumes nothing.
-use Rattle.std.specs.Prelude.{List, ℕ, ◌*◌}
+use Rattle.std.specs.Prelude.{List, ℕ, ◌*◌, ◌<◌}
 use Rattle.bits.specs.Path.{Path, prefix}
 use Rattle.rules.specs.Field.{field_at, value_in, length_in}
-use Rattle.rules.specs.Table.{rule_count, record_at}
+use Rattle.rules.specs.Table.{rule_count, record_at, SoundRule}
 use Rattle.area.specs.Shape.{record_words}
 use Rattle.area.specs.Upto.{upto}
 use Rattle.area.specs.Grow.{zeroed, State, mk, inserted}
+
+-- a table whose rules are all sound
+pub record AllSound (table : List ℕ) : Type 0 where
+  pub each : (place : ℕ) → place < rule_count table → SoundRule (record_at table place)
 
 -- the path that a rule puts into field f
 unfoldable pub path_of : List ℕ → ℕ → Path

@@ -1,7 +1,6 @@
 -- What a table and a header fix, whatever the index: the lowest rule that matches, its action, and the false blocks. Said as lookup's answer.
 -- Assumes nothing.
-use Rattle.std.specs.Prelude.{List, ℕ}
-use Rattle.std.specs.Prelude.{Option, None, Some}
+use Rattle.std.specs.Prelude.{List, ℕ, Option, None, Some}
 use Rattle.rules.specs.Rule.{Rule}
 use Rattle.rules.specs.Table.{rules_of}
 use Rattle.rules.specs.Header.{header_values}

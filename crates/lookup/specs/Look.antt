@@ -1,7 +1,6 @@
 -- Lookup, step by step over any table, area and header (01: "Looking up a header", "The desk's numbers").
 -- Assumes nothing.
-use Rattle.std.specs.Prelude.{not, cond, List, [], ◌∷◌, map, ℕ, suc, ◌*◌, ◌%◌, eqb, ltb, length}
-use Rattle.std.specs.Prelude.{Option, None, Some}
+use Rattle.std.specs.Prelude.{not, cond, List, [], ◌∷◌, map, ℕ, suc, ◌*◌, ◌%◌, eqb, ltb, length, Option, None, Some}
 use Rattle.bits.specs.Path.{bits}
 use Rattle.rules.specs.declared.fields.Field.{Field}
 use Rattle.rules.specs.Field.{fields}

@@ -1,7 +1,6 @@
 -- Blocks in order: from the fields' summaries and vectors to a place and the number of false blocks.
 -- Assumes nothing.
-use Rattle.std.specs.Prelude.{Bool, true, false, List, map, ℕ, zero, suc, ◌+◌, ◌*◌, eqb, get_or}
-use Rattle.std.specs.Prelude.{Option, None, Some}
+use Rattle.std.specs.Prelude.{Bool, true, false, List, map, ℕ, zero, suc, ◌+◌, ◌*◌, eqb, get_or, Option, None, Some}
 use Rattle.std.specs.Int.Count.{count_trailing_zeros}
 use Rattle.bits.specs.Word.{and_all}
 use Rattle.area.specs.Shape.{Shape}

@@ -1,8 +1,7 @@
 -- Going down the index by a header's bits, over any area at all: what stands in a record, when a child is damaged, and which records
 -- the walks of a header reach. A walk that meets damage reaches nothing.
 -- Assumes nothing.
-use Rattle.std.specs.Prelude.{Bool, true, false, ◌||◌, List, [], ◌∷◌, ℕ, ◌+◌, ◌*◌, ◌/◌, eqb, ltb, leb, length, get_or, take, drop}
-use Rattle.std.specs.Prelude.{Option, None, Some}
+use Rattle.std.specs.Prelude.{Bool, true, false, ◌||◌, List, [], ◌∷◌, ℕ, ◌+◌, ◌*◌, ◌/◌, eqb, ltb, leb, length, get_or, take, drop, Option, None, Some}
 use Rattle.bits.specs.Path.{Path}
 use Rattle.bits.specs.Word.{digit}
 use Rattle.area.specs.Shape.{Shape, width}

@@ -48,7 +48,7 @@ fn is_set(word: u32, b: usize) -> bool
 fn lowest(word: u32) -> usize
     ensures { (result ≡ count_trailing_zeros 32 word) × (result ≤ 32) }
 {
-    u32::trailing_zeros(word) as usize
+    word.trailing_zeros() as usize
 }
 
 // A block whose five aggregate bits are all set may still be a false one: it is counted, and the next

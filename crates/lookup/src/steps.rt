@@ -1,7 +1,6 @@
 // Saying what was found, and the whole lookup.
 ghost use Rattle.std.specs.Prelude.{◌≡◌, ◌≤◌, Some, length};
-ghost use Rattle.std.specs.Prelude.{Some};
-ghost use Rattle.rules.specs.Header.{header_size, header_values};
+ghost use Rattle.rules.specs.Header.{header_values};
 ghost use Rattle.area.specs.Shape.{desk_shape};
 ghost use Rattle.lookup.specs.Scan.{found};
 ghost use Rattle.lookup.specs.Look.{header_keys, widths, lookup_steps, found_said, steps_said, least_words, look_said};
@@ -9,7 +8,7 @@ ghost use Rattle.lookup.specs.InCode.{scanned, looked_said};
 
 use crate::scan::Scanned;
 use crate::{Answer, Outcome};
-use rules::Refusal;
+use rules::{HEADER_BYTES, Refusal};
 
 // A place that the blocks gave: the table is read there, and nowhere else.
 fn matched(table: &[u8], place: usize, falses: usize) -> Result<Answer, Refusal>
@@ -19,7 +18,7 @@ fn matched(table: &[u8], place: usize, falses: usize) -> Result<Answer, Refusal>
         return Err(Refusal::DamagedArea);
     }
     let rule = rules::record_at(table, place);
-    let Some(action) = rules::decode(rule[18], rule[19]) else {
+    let Some(action) = rules::action_of(rule) else {
         return Err(Refusal::UnknownAction(place));
     };
     let outcome = Outcome::Match(place, action);
@@ -41,8 +40,8 @@ fn said_of(table: &[u8], tried: Scanned) -> Result<Answer, Refusal>
 }
 
 // The steps over an area that has the five roots.
-fn go_through(table: &[u8], area: &[u32], header: &[u8]) -> Result<Answer, Refusal>
-    requires { (least_words ≤ length area.now) × (length header.now ≡ header_size) }
+fn go_through(table: &[u8], area: &[u32], header: &[u8; HEADER_BYTES]) -> Result<Answer, Refusal>
+    requires { least_words ≤ length area.now }
     ensures { looked_said result ≡ steps_said table.now (lookup_steps desk_shape area.now (header_keys widths (header_values header.now))) }
 {
     let Some(records) = crate::walk::go_down_all(area, header) else {
@@ -57,7 +56,7 @@ fn go_through(table: &[u8], area: &[u32], header: &[u8]) -> Result<Answer, Refus
 pub fn look(table: &[u8], area: &[u32], header: &[u8]) -> Result<Answer, Refusal>
     ensures { looked_said result ≡ look_said table.now area.now header.now }
 {
-    if header.len() != rules::HEADER_BYTES {
+    if header.len() != HEADER_BYTES {
         return Err(Refusal::NotAHeader);
     }
     if table.len() % rules::RECORD_BYTES != 0 {
@@ -69,5 +68,5 @@ pub fn look(table: &[u8], area: &[u32], header: &[u8]) -> Result<Answer, Refusal
     if area.len() < rules::FIELDS * area::RECORD_WORDS {
         return Err(Refusal::DamagedArea);
     }
-    go_through(table, area, header)
+    go_through(table, area, header.as_array().unwrap())
 }

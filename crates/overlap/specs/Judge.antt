@@ -1,7 +1,6 @@
 -- The judgement of a move: which pair forbids it, and what it is that no allowed move may change.
 -- Assumes nothing.
-use Rattle.std.specs.Prelude.{◌≡◌, Bool, not, ◌&&◌, List, ℕ, ltb, length}
-use Rattle.std.specs.Prelude.{Option, None}
+use Rattle.std.specs.Prelude.{◌≡◌, Bool, not, ◌&&◌, List, ℕ, ltb, length, Option, None}
 use Rattle.std.specs.Option.{option_map}
 use Rattle.rules.specs.declared.Action.{Action}
 use Rattle.rules.specs.Rule.{Rule}

@@ -1,8 +1,7 @@
 -- What stands in the way of a move, as the code finds it from the table of new places.
 -- What is told of a pair is its places and then the values of its lowest shared header; nothing where there is none.
 -- Assumes nothing.
-use Rattle.std.specs.Prelude.{Bool, ◌&&◌, List, [], ◌∷◌, ℕ, ltb, get_or}
-use Rattle.std.specs.Prelude.{Option, None, Some}
+use Rattle.std.specs.Prelude.{Bool, ◌&&◌, List, [], ◌∷◌, ℕ, ltb, get_or, Option, None, Some}
 use Rattle.rules.specs.declared.Crossing.{Crossing}
 use Rattle.rules.specs.Refusal.{values}
 use Rattle.rules.specs.Rule.{Rule}

@@ -33,6 +33,7 @@ fn covers_in(a: Record<'_>, b: Record<'_>, f: usize) -> bool
     first.len <= second.len && first.leads(second)
 }
 
+// Two tests of a field, and not one over a relation, which was slower in the pair list; and two records, since covering is asked both ways.
 // "Two rules share a header when, in each field, one prefix is a leading part of the other."
 pub fn shares(a: Record<'_>, b: Record<'_>) -> bool
     ensures { result ≡ share (rule_of a.entry.bytes.now) (rule_of b.entry.bytes.now) }

@@ -17,8 +17,8 @@ fn clash(a: Record<'_>, b: Record<'_>) -> bool
     shares(a, b) && !same_action(a, b)
 }
 
-// Table and places stay two parameters here: a struct of both would only be taken apart again.
-// Whether two rules change order and clash; those that keep their order are not compared.
+// Whether two rules change order and clash; those that keep their order are not compared. Table and places stay two parameters: a struct
+// of both would only be taken apart again.
 fn is_overtaken(table: Table<'_>, places: &[u16], lower: usize, higher: usize) -> bool
     requires { (rule_count table.bytes.now ≤ length places.now) × (lower < rule_count table.bytes.now) × (higher < rule_count table.bytes.now) }
     ensures { result ≡ overtaken_by (rules_of table.entry.bytes.now) places.now lower higher }

@@ -13,7 +13,8 @@ fn put_record(output: &mut [u8], rule: &RecordBytes)
     output[..RECORD_BYTES].copy_from_slice(rule);
 }
 
-// "each record goes out through the part of the output that starts at its new place; bytes beyond the table stay"
+// "each record goes out through the part of the output that starts at its new place; bytes beyond the table stay".
+// By place: of chunks that are lent to be written nothing is said afterwards.
 pub fn write_moved(table: Table<'_>, order: &[u16], output: &mut [u8])
     requires { (is_order (rule_count table.bytes.now) order.now ≡ true) × (length table.bytes.now ≤ length output.old) }
     ensures { output.new ≡ moved_table table.entry.bytes.now order.now ++ drop (length table.entry.bytes.now) output.old }

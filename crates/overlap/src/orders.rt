@@ -8,7 +8,7 @@ use rules::MOST_RULES;
 
 // Stands for an old place that no entry has named: every new place is below it. A None in each cell would have to be taken
 // off again from a whole table.
-const UNSEEN: u16 = 256;
+const UNSEEN: u16 = MOST_RULES as u16;
 
 // The new place of each old one. None, which 11 is for, of any other list: one of another length, or with an entry that is
 // too large or repeated.

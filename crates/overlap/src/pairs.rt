@@ -42,7 +42,7 @@ fn write_row(table: Table<'_>, lower: usize, list: &mut [u16]) -> usize
 {
     let rule = table.record(lower);
     let mut at = 0;
-    // By number: the two places are what is written.
+    // By number: the two places are what is written. `at` is how much is, since of chunks lent to be written nothing is said afterwards.
     for higher in lower + 1..table.len() {
         if is_listed(rule, table.record(higher)) {
             list[at..at + 2].copy_from_slice(&[lower as u16, higher as u16]);
@@ -58,7 +58,7 @@ pub fn write_pairs(table: Table<'_>, list: &mut [u16])
     ensures { list.new ≡ entries (pairs_of (rules_of table.entry.bytes.now)) ++ drop (2 * length (pairs_of (rules_of table.entry.bytes.now))) list.old }
 {
     let mut at = 0;
-    // By number, too.
+    // By number, and with `at`, for the same reasons.
     for lower in 0..table.len() {
         at += write_row(table, lower, &mut list[at..]);
     }

@@ -94,10 +94,16 @@ lines_agree says other input (suc n) same =
     ∙ sym (lines_more other input n)
     ∙ ap (first_lines other input) (sym one)
 
+-- a header as a part of the input
+pub header_part : (input : List ℕ) (k : ℕ) → take ((k * header_size + header_size) - k * header_size) (drop (k * header_size) input) ≡ header_in input k
+unfolding header_in
+header_part input k = let size : (k * header_size + header_size) - k * header_size ≡ header_size = omega arith in ap (λ (n : ℕ). take n (drop (k * header_size) input)) size
+
 -- a chunk of the input is a header
 pub header_chunk : (input : List ℕ) (k n : ℕ) → n < k → get_or (first_chunks header_size k input) n [] ≡ header_in input n
-unfolding header_in
-header_chunk input k n h = chunk_at header_size k n input h
+header_chunk input k n h =
+    let size : header_size ≡ (n * header_size + header_size) - n * header_size = omega arith in
+    chunk_at header_size k n input h ∙ ap (λ (m : ℕ). take m (drop (n * header_size) input)) size ∙ header_part input n
 
 header_whole : (input : List ℕ) (k : ℕ) → k < length input / header_size → length (header_in input k) ≡ header_size
 unfolding header_in

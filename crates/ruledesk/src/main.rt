@@ -8,8 +8,7 @@ mod read;
 mod report;
 
 use report::{AREA_WORDS, MOST_INPUT, TABLE_BYTES, TEXT_BYTES};
-use std::io;
-use std::io::Write;
+use std::io::{self, Write};
 
 fn main(rt: HostRuntime) -> io::Result<()> {
     let mut head = [0u8; TABLE_BYTES];

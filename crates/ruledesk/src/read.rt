@@ -35,10 +35,7 @@ fn count_in(whole: usize, answer: io::Result<usize>) -> Result<Option<usize>, Un
     if count == 0 {
         return Ok(None);
     }
-    let Some(next) = whole.checked_add(count) else {
-        return Err(Unreadable);
-    };
-    Ok(Some(next))
+    Ok(Some(whole.checked_add(count).ok_or(Unreadable)?))
 }
 
 // One read into a part that is lent to it. Of no room it would answer 0, as at the end.

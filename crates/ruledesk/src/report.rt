@@ -8,21 +8,22 @@ ghost use Rattle.ruledesk.specs.InCode.{Puts, long_said};
 ghost use Rattle.ruledesk.specs.Program.{first_lines, Holds, Reports};
 
 use crate::lines::{Line, MOST_LINE, answer_line, refusal_line};
-use rules::{HEADER_BYTES, RECORD_BYTES, Refusal};
+use rules::{HEADER_BYTES, MOST_RULES, RECORD_BYTES, Refusal};
 
 // "headers from standard input, at most 13,000 bytes"
-pub const MOST_INPUT: usize = 13000;
+pub const MOST_INPUT: usize = 1000 * HEADER_BYTES;
 
 // "with an area of 16,384 words"
 pub const AREA_WORDS: usize = 16384;
 
-// 256 rules; a longer table is refused by its length alone.
-pub const TABLE_BYTES: usize = 6144;
+// A longer table is refused by its length alone.
+pub const TABLE_BYTES: usize = MOST_RULES * RECORD_BYTES;
 
 // A line for each of 1,000 headers.
 pub const TEXT_BYTES: usize = 1000 * MOST_LINE;
 
 // A line goes to `out` from byte `at` on; the answer is where the next one goes.
+// The length stands beside: `Reports` and `IsPrefixLen` are said of the lent text and its length.
 fn put_line(out: &mut [u8], at: usize, line: Line) -> usize
     requires { at + 64 ≤ length out.old }
     ensures { Puts 64 out.old at line.bytes out.new result }
@@ -60,6 +61,7 @@ fn long_table(whole: usize) -> Refusal
 
 // Puts the program's whole text at the front of `out` and answers its length. `head` and `first` hold the
 // first bytes of the file and of the input; `file` and `input` are their whole lengths, which may be more than the room for them.
+// So both stand: no slice of the room is as long as the file or the input then.
 pub fn report(
     head: &[u8; TABLE_BYTES],
     file: usize,

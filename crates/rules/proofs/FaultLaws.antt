@@ -14,7 +14,6 @@ use borrow.Author.Tests.{eqb-true, eqb-false, eq-eqb, ne_eqb, ltb-false, le-ltb}
 use Rattle.bits.specs.Tests.{lowest}
 use Rattle.bits.proofs.TestLaws.{less, Lowest, Told, lowest_told, lowest_some}
 use Rattle.rules.specs.declared.Action.TheVariants.{Hold, Deliver}
-use Rattle.std.specs.Prelude.{Some, None}
 use Rattle.rules.specs.Action.{decoded, is_unknown}
 use Rattle.rules.specs.Table.{record_size, most_rules, rule_count, record_at, fault, rule_said, faulty, place_said, rules_said, verdict}
 use Rattle.rules.specs.declared.Refusal.{Refusal}

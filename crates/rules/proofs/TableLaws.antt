@@ -14,7 +14,6 @@ use Rattle.bits.specs.Tests.{all, lowest}
 use Rattle.bits.proofs.NumberLaws.{number_nonzero}
 use Rattle.bits.proofs.TestLaws.{and_trues, lowest_told, lowest_none, Told, Never}
 use Rattle.rules.specs.declared.Action.{Action}
-use Rattle.std.specs.Prelude.{Some, None}
 use Rattle.rules.specs.Action.{action_in, is_unknown}
 use Rattle.rules.specs.Table.{record_size, most_rules, rule_count, record_at, long_prefix, stray_bit, unknown_action, spare_bytes, stray_port, rule_tests, first_failed, fault, rule_said, faulty, place_said, rules_said, verdict, Accepted, SoundRule}
 use Rattle.rules.proofs.ActionLaws.{known}

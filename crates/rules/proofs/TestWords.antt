@@ -16,7 +16,6 @@ use Rattle.bits.specs.Tests.{all, lowest}
 use Rattle.bits.proofs.TestLaws.{and_trues, none_at, Told, lowest_told}
 use Rattle.bits.proofs.EachLaws.{none_any}
 use Rattle.bits.proofs.PathLaws.{length_bits}
-use Rattle.std.specs.Prelude.{None}
 use Rattle.rules.specs.declared.Refusal.{Refusal}
 use Rattle.rules.specs.declared.Refusal.TheVariants.{RaggedTable, TooManyRules, LongPrefix, StrayBit, UnknownAction, SpareBytes, StrayPort}
 use Rattle.rules.specs.declared.fields.Field.{Field}

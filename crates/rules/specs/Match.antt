@@ -1,8 +1,7 @@
 -- Which rule a header gets, and how many blocks deceive: what table and header fix, whatever the index.
 -- A header is the list of its values, as in `header_values`.
 -- Assumes nothing.
-use Rattle.std.specs.Prelude.{Bool, not, ◌&&◌, List, [], ◌∷◌, ℕ, ◌*◌, ◌/◌, length, get_or, take, drop}
-use Rattle.std.specs.Prelude.{Option, None, Some}
+use Rattle.std.specs.Prelude.{Bool, not, ◌&&◌, List, [], ◌∷◌, ℕ, ◌*◌, ◌/◌, length, get_or, take, drop, Option, None, Some}
 use Rattle.bits.specs.Tests.{any, all, each, up_from, lowest, count}
 use Rattle.rules.specs.Rule.{has, Rule, nowhere, span_in}
 

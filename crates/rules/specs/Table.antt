@@ -1,7 +1,6 @@
 -- A rule table: its records, when a record is at fault, and the verdict on the whole.
 -- Assumes nothing.
-use Rattle.std.specs.Prelude.{◌≡◌, Bool, not, cond, ◌&&◌, List, [], ◌∷◌, map, ℕ, ◌*◌, ◌/◌, ◌%◌, eqb, ltb, length, take, drop}
-use Rattle.std.specs.Prelude.{Option, None, Some}
+use Rattle.std.specs.Prelude.{◌≡◌, Bool, not, cond, ◌&&◌, List, [], ◌∷◌, map, ℕ, ◌*◌, ◌/◌, ◌%◌, eqb, ltb, length, take, drop, Option, None, Some}
 use Rattle.bits.specs.Path.{stray}
 use Rattle.bits.specs.Tests.{any, up_from, lowest}
 use Rattle.rules.specs.declared.fields.Field.{Field}

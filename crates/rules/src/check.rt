@@ -1,6 +1,6 @@
 // Whether a rule, and a whole table, is accepted.
 ghost use Rattle.std.specs.Prelude.{◌≡◌};
-ghost use Rattle.rules.specs.Action.{decoded};
+ghost use Rattle.rules.specs.Action.{decoded, action_in};
 ghost use Rattle.rules.specs.Refusal.{checked_said};
 ghost use Rattle.rules.specs.Table.{rule_said, verdict};
 
@@ -18,6 +18,14 @@ pub fn decode(kind: u8, feed: u8) -> Option<Action>
     }
 }
 
+// The action of a record.
+#[tactic(auto, unfolding(crate::specs::Action::action_in))]
+pub fn action_of(bytes: &RecordBytes) -> Option<Action>
+    ensures { result ≡ action_in bytes.now }
+{
+    decode(bytes[18], bytes[19])
+}
+
 // The tests of one rule, in their order.
 pub fn check_rule(bytes: &RecordBytes, place: usize) -> Result<(), Refusal>
     ensures { checked_said result ≡ rule_said place bytes.now }
@@ -28,7 +36,7 @@ pub fn check_rule(bytes: &RecordBytes, place: usize) -> Result<(), Refusal>
     if prefixes.has_stray_bit() {
         return Err(Refusal::StrayBit(place));
     }
-    let Some(_) = decode(bytes[18], bytes[19]) else {
+    let Some(_) = action_of(bytes) else {
         return Err(Refusal::UnknownAction(place));
     };
     if bits::number_at(bytes, 20, 4) != 0 {

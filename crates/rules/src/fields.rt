@@ -2,9 +2,9 @@
 ghost use Rattle.std.specs.Prelude.{◌≡◌, ◌^◌, ◌≤◌, ◌<◌, length};
 ghost use Rattle.rules.specs.Field.{field_at, value_in, length_in};
 ghost use Rattle.rules.specs.Header.{header_size};
+ghost use Rattle.rules.specs.Table.{record_size};
 
-use crate::{FIELDS, RecordBytes};
-use bits::Prefix;
+use crate::FIELDS;
 
 // Where a field stands: the first byte of its value in a record and a header alike, the value's bits, and the byte of a record that
 // holds the length of its prefix.
@@ -44,7 +44,7 @@ const LAYOUT: [Field; FIELDS] = [
 ];
 
 // The bits of field f.
-pub(crate) fn width_of(f: usize) -> usize
+pub fn width_of(f: usize) -> usize
     requires { f < 5 }
     ensures { (result ≡ (field_at f).width) × (result ≤ 32) }
 {
@@ -59,23 +59,9 @@ pub fn value_of(bytes: &[u8], f: usize) -> u32
     bits::number_at(bytes, LAYOUT[f].start, LAYOUT[f].width / 8)
 }
 
-// The same with all its bits, as a prefix of full length.
-pub fn whole_value(bytes: &[u8], f: usize) -> Prefix
-    requires { (f < 5) × (header_size ≤ length bytes.now) }
-    ensures value { result.value ≡ value_in bytes.now (field_at f) }
-    ensures len { result.len ≡ (field_at f).width }
-    ensures width { result.width ≡ (field_at f).width }
-{
-    Prefix {
-        value: value_of(bytes, f),
-        len: width_of(f),
-        width: width_of(f),
-    }
-}
-
 // The length of field f's prefix in a record.
-pub(crate) fn length_of(bytes: &RecordBytes, f: usize) -> usize
-    requires { f < 5 }
+pub fn length_of(bytes: &[u8], f: usize) -> usize
+    requires { (f < 5) × (record_size ≤ length bytes.now) }
     ensures { result ≡ length_in bytes.now (field_at f) }
 {
     usize::from(bytes[LAYOUT[f].length_at])

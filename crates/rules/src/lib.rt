@@ -1,5 +1,5 @@
 // What the bytes of a rule table and of a header mean: one rule, a whole table, a header.
-// Nothing here knows an index; bytes are judged once, and everything above speaks of rules.
+// Bytes are judged once, and everything above speaks of rules.
 #![tactic(auto)]
 
 mod check;
@@ -9,8 +9,8 @@ mod numbers;
 mod prefixes;
 mod records;
 
-pub use check::{check_rule, check_table, decode};
-pub use fields::{value_of, whole_value};
+pub use check::{action_of, check_rule, check_table, decode};
+pub use fields::{length_of, value_of, width_of};
 pub use prefixes::Prefixes;
 pub use records::{Record, Table, record_at};
 
@@ -20,8 +20,8 @@ pub const HEADER_BYTES: usize = 13;
 
 pub const MOST_RULES: usize = 256;
 
-// Source address, destination address, source port, destination port, protocol. A field is named by its number: 01 roots field f's
-// paths at record f of an index.
+// Source address, destination address, source port, destination port, protocol. A field is a number below 5 and no enum: 01 roots
+// field f's paths at record f of an index, the definitions and laws are said of numbers, and the five are gone through in order.
 pub const FIELDS: usize = 5;
 
 pub type RecordBytes = [u8; RECORD_BYTES];

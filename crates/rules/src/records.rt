@@ -5,7 +5,7 @@ ghost use Rattle.rules.specs.Field.{field_at, value_in, length_in};
 ghost use Rattle.rules.specs.Table.{record_size, most_rules, record_at, rule_count, verdict, Accepted, SoundRule};
 ghost use Rattle.rules.specs.Refusal.{checked_said};
 
-use crate::{Action, Prefixes, RECORD_BYTES, RecordBytes, Refusal, check_table, decode};
+use crate::{Action, Prefixes, RECORD_BYTES, RecordBytes, Refusal, action_of, check_table};
 use bits::Prefix;
 
 // A rule's record that fails no test of its own.
@@ -15,7 +15,7 @@ pub struct Record<'a> {
     ghost sound: { SoundRule bytes.now },
 }
 
-// A table that is accepted.
+// A table that is accepted. A place stays a number beside it: pairs, orders and the bits of a vector are made of places.
 #[derive(Clone, Copy)]
 pub struct Table<'a> {
     pub bytes: &'a [u8],
@@ -27,8 +27,8 @@ pub fn record_at(table: &[u8], place: usize) -> &RecordBytes
     requires { (place + 1) * record_size ≤ length table.now }
     ensures { result.now ≡ record_at table.now place }
 {
-    let (records, _) = table.as_chunks();
-    &records[place]
+    let start = place * RECORD_BYTES;
+    table[start..start + RECORD_BYTES].as_array().unwrap()
 }
 
 impl<'a> Record<'a> {
@@ -47,7 +47,7 @@ impl<'a> Record<'a> {
     pub fn action(self) -> Action
         ensures { action_in self.entry.bytes.now ≡ Some result }
     {
-        decode(self.bytes[18], self.bytes[19]).unwrap()
+        action_of(self.bytes).unwrap()
     }
 }
 

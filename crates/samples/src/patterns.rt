@@ -2,7 +2,7 @@
 use crate::records::delivering_rule;
 use rules::{MOST_RULES, RECORD_BYTES, RecordBytes};
 
-// A table of 256 rules.
+// The bytes of a table of 256 rules.
 pub const TABLE_BYTES: usize = MOST_RULES * RECORD_BYTES;
 
 // An enum, not a parameter `impl Fn(u8) -> RecordBytes`: that would have to ask of the callers of `fill`, which asks nothing, that it may

@@ -8,13 +8,15 @@ use rules::{RECORD_BYTES, RecordBytes};
 pub(crate) fn write_record(table: &mut [u8], place: usize, rule: RecordBytes)
     ensures { table.new ≡ written table.old place rule }
 {
+    // By place: of chunks that are lent to be written nothing is said afterwards.
     if place < table.len() / RECORD_BYTES {
         let start = place * RECORD_BYTES;
         table[start..start + RECORD_BYTES].copy_from_slice(&rule);
     }
 }
 
-// A rule that delivers, of the first byte and the length of each address.
+// A rule that delivers, of the first byte and the length of each address. Five parameters: the numbers of a rule that a reader sees
+// in a table of the programs.
 pub(crate) fn delivering_rule(
     source: u8,
     slen: u8,

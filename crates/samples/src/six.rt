@@ -4,7 +4,7 @@ ghost use Rattle.samples.specs.Sample.{StartsWithSix};
 use crate::records::{delivering_rule, write_record};
 use rules::RECORD_BYTES;
 
-// The six rules alone.
+// The bytes of a table of the six rules alone.
 pub const SIX_BYTES: usize = 6 * RECORD_BYTES;
 
 pub fn six_rules(table: &mut [u8])

@@ -1,4 +1,5 @@
-// What requests and replies carry many of, each in so many bytes, the highest first.
+// What requests and replies carry many of, each in so many bytes, the highest first. No trait of the library has both methods, so the
+// three numbers have an `impl` each, alike.
 ghost use Rattle.std.specs.Prelude.{◌<◌, ◌^◌};
 ghost use Rattle.std.proofs.Common.{lit<};
 

@@ -34,6 +34,7 @@ impl<R: Read, W: Write> Session<R, W> {
     // Request after request, until one stops it. Nothing says that the input ends, so the loop counts its
     // turns, up to a number that no run uses up; an iterator of requests would have to count them too.
     pub fn serve(&mut self) -> Result<(), Stop> {
+        // Apart from the session, which reads on while the table is lent.
         let mut room = [0; MOST_BYTES];
         for _ in 0..u64::MAX {
             self.serve_one(&mut room)?;

@@ -5,4 +5,4 @@ mod printing;
 mod time;
 
 pub use printing::Refused;
-pub use time::{clock, since};
+pub use time::{clock, since, timed};

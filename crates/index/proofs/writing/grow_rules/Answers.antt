@@ -5,7 +5,7 @@ use Rattle.area.specs.Upto.{upto}
 use Rattle.area.proofs.UptoLaws.{upto_more}
 use Rattle.rules.specs.Table.{record_at, rule_count}
 use Rattle.index.specs.Steps.{rule_in, rules_in}
-use Rattle.index.proofs.StepLaws.{rules_good, growth_turn}
+use Rattle.index.proofs.StepLaws.{all_sound, rules_good, growth_turn}
 use Rattle.index.proofs.writing.grow_rules.Goals as goal
 
 pub loop-i-init : goal.loop-i-init
@@ -17,7 +17,7 @@ unfolding rules_in
 grow_rule-requires-clause-room c =
     let t = c.args.table.bytes.now in
     rw c.record.ensures
-    (growth_turn (λ i. rule_in (record_at t i) i) (rule_count t) (rules_good t c.args.table.accepted) c.args.growth.now c.requires.room c.loop-i.i (omega (arith, c.len-i-end.ensures)) c.loop-i.growth c.loop-i.invariant.grown)
+    (growth_turn (λ i. rule_in (record_at t i) i) (rule_count t) (rules_good t (all_sound t c.args.table.accepted).1) c.args.growth.now c.requires.room c.loop-i.i (omega (arith, c.len-i-end.ensures)) c.loop-i.growth c.loop-i.invariant.grown)
 
 pub loop-i-preserved : goal.loop-i-preserved
 unfolding rules_in

@@ -20,25 +20,15 @@ returns-then-table-place c =
     sym (said_far a.table.now a.falses a.place (le-ltb a.place (length a.table.now / 24) c.if-table-place.true))
 
 pub returns-in_default : goal.returns-in_default
-unfolding told said action_in
+unfolding told said
 returns-in_default c =
     let a = c.args in
     sym (said_no_action a.table.now a.falses a.place (lt-ltb a.place (length a.table.now / 24) c.if-table-place.false)
-    (sym (c.decode.ensures ∙ ap action_in c.record_at-rule.ensures) ∙ c.in_default.is))
+    (sym (c.action_of.ensures ∙ ap action_in c.record_at-rule.ensures) ∙ c.in_default.is))
 
 pub returns : goal.returns
-unfolding told outcome_said action_in
+unfolding told outcome_said
 returns c =
     let a = c.args in
     sym (said_known a.table.now a.falses a.place _ (lt-ltb a.place (length a.table.now / 24) c.if-table-place.false)
-    (sym (c.decode.ensures ∙ ap action_in c.record_at-rule.ensures) ∙ c.in-Some.is))
-
--- the record that is read is whole
-whole : (table rule : List ℕ) (place : ℕ) → rule ≡ record_at table place → place < length table / 24 → length rule ≡ record_size
-whole table rule place e below = ap length e ∙ length_record table place (omega arith)
-
-pub bounds-rule-18 : goal.bounds-rule-18
-bounds-rule-18 c = omega (arith, whole _ _ _ c.record_at-rule.ensures c.if-table-place.false)
-
-pub bounds-rule-19 : goal.bounds-rule-19
-bounds-rule-19 c = omega (arith, whole _ _ _ c.record_at-rule.ensures c.if-table-place.false)
+    (sym (c.action_of.ensures ∙ ap action_in c.record_at-rule.ensures) ∙ c.in-Some.is))

@@ -8,7 +8,4 @@ use Rattle.lookup.specs.Walk.{walk_from}
 use Rattle.lookup.proofs.walk.go_down.Given as goal
 
 abbrev pub invariant-loop-j : goal.invariant-loop-j
-invariant-loop-j l =
-    (l.j ≤ l.value.width)
-    × (l.row < length l.area / record_words)
-    × (walk_from desk_shape l.area l.row (bits (l.value.width - l.j) l.value.value) ≡ walk_from desk_shape l.area l.root (bits l.value.width l.value.value))
+invariant-loop-j l = (l.j ≤ l.width) × (l.row < length l.area / record_words) × (walk_from desk_shape l.area l.row (bits (l.width - l.j) l.value) ≡ walk_from desk_shape l.area l.root (bits l.width l.value))

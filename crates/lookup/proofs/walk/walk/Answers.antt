@@ -19,8 +19,8 @@ ends_inside area p n (Some m) h e = walk_inside area p n m h (sym e)
 pub returns : goal.returns
 unfolding walk
 returns c =
-    let read = c.whole_value.ensures in
     record {
-      end = c.go_down.ensures ∙ ap₂ (λ (w v : ℕ). walk_from desk_shape c.args.area.now c.args.f (bits w v)) read.width read.value;
+      end = c.go_down.ensures
+          ∙ ap₂ (λ (w v : ℕ). walk_from desk_shape c.args.area.now c.args.f (bits w v)) c.width_of.ensures.0 c.value_of.ensures.0;
       inside = ends_inside c.args.area.now _ c.args.f _ (omega arith) c.go_down.ensures;
     }

@@ -9,12 +9,16 @@ pub returns-then-first-second : goal.returns-then-first-second
 returns-then-first-second c =
     let p = c.prefix-first.ensures in
     let q = c.prefix-second.ensures in
+    let first = read c.prefix-first.result c.args.a.sound c.requires p.value p.len p.width in
+    let second = read c.prefix-second.result c.args.b.sound c.requires q.value q.len q.width in
     c.leads.ensures
-    ∙ short_cover (read c.prefix-first.result c.args.a.sound c.requires p.value p.len p.width) (read c.prefix-second.result c.args.b.sound c.requires q.value q.len q.width) c.if-first-second.true
+    ∙ short_cover first second c.if-first-second.true
 
 pub returns-else-first-second : goal.returns-else-first-second
 returns-else-first-second c =
     let p = c.prefix-first.ensures in
     let q = c.prefix-second.ensures in
+    let first = read c.prefix-first.result c.args.a.sound c.requires p.value p.len p.width in
+    let second = read c.prefix-second.result c.args.b.sound c.requires q.value q.len q.width in
     lt-leb _ _ (omega arith)
-    ∙ sym (long_cover (read c.prefix-first.result c.args.a.sound c.requires p.value p.len p.width) (read c.prefix-second.result c.args.b.sound c.requires q.value q.len q.width) (omega arith))
+    ∙ sym (long_cover first second (omega arith))

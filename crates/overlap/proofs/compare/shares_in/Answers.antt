@@ -9,13 +9,17 @@ pub returns-then-first-second : goal.returns-then-first-second
 returns-then-first-second c =
     let p = c.prefix-first.ensures in
     let q = c.prefix-second.ensures in
+    let first = read c.prefix-first.result c.args.a.sound c.requires p.value p.len p.width in
+    let second = read c.prefix-second.result c.args.b.sound c.requires q.value q.len q.width in
     c.leads.ensures
-    ∙ short_share (read c.prefix-first.result c.args.a.sound c.requires p.value p.len p.width) (read c.prefix-second.result c.args.b.sound c.requires q.value q.len q.width) c.if-first-second.true
+    ∙ short_share first second c.if-first-second.true
 
 pub returns-else-first-second : goal.returns-else-first-second
 returns-else-first-second c =
     let p = c.prefix-first.ensures in
     let q = c.prefix-second.ensures in
+    let first = read c.prefix-first.result c.args.a.sound c.requires p.value p.len p.width in
+    let second = read c.prefix-second.result c.args.b.sound c.requires q.value q.len q.width in
     c.leads-else-first-second.ensures
-    ∙ short_share (read c.prefix-second.result c.args.b.sound c.requires q.value q.len q.width) (read c.prefix-first.result c.args.a.sound c.requires p.value p.len p.width) (omega arith)
+    ∙ short_share second first (omega arith)
     ∙ span_swap _ _

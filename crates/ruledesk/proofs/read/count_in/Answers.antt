@@ -1,6 +1,5 @@
 -- `count_in` meets its contract.
-use mathlib.Core.Path.{◌≡◌, sym}
-use Prim.Native.Nat.{◌+◌}
+use mathlib.Core.Path.{sym}
 use Rattle.std.proofs.lemmas.Result.{err_from_is_err_and}
 use native.Mathlib.Omega.{arith}
 use Rattle.ruledesk.specs.Reading.{counted_in}
@@ -17,13 +16,15 @@ pub returns-then-count-eq0 : goal.returns-then-count-eq0
 unfolding counted_in
 returns-then-count-eq0 c = rw c.in_ok-count.was (sym (lengthened_none c.args.whole c.in_ok-count.count c.if-count-eq0.true))
 
-pub returns-in_default : goal.returns-in_default
+pub returns-in_err-ok_or : goal.returns-in_err-ok_or
 unfolding counted_in
-returns-in_default c =
-    rw c.in_ok-count.was (sym (lengthened_large c.args.whole c.in_ok-count.count c.if-count-eq0.false (omega (arith, c.in_default.ensures))))
+returns-in_err-ok_or c =
+    let large = rw c.in_err-ok_or.ensures.ok_part at c.checked_add.ensures in
+    let p = err_from_is_err_and c.from_residual-in_err-ok_or.result c.from_residual-in_err-ok_or.ensures.1 in
+    rw (c.in_ok-count.was, p.1) (sym (lengthened_large c.args.whole c.in_ok-count.count c.if-count-eq0.false (omega (arith, large))))
 
 pub returns : goal.returns
 unfolding counted_in
 returns c =
-    let sum : c.in-Some.next ≡ c.args.whole + c.in_ok-count.count = omega (arith, c.in-Some.ensures.1) in
-    rw (c.in_ok-count.was, sum) (sym (lengthened_more c.args.whole c.in_ok-count.count c.if-count-eq0.false (omega (arith, c.in-Some.ensures.0))))
+    let sum = rw c.in_ok-ok_or.ensures.ok_part at c.checked_add.ensures in
+    rw (c.in_ok-count.was, sum.1) (sym (lengthened_more c.args.whole c.in_ok-count.count c.if-count-eq0.false sum.0))

@@ -42,17 +42,17 @@ returns-then-has_stray_bit c =
     let p = c.in-Some in
     sym (said_stray a.place a.bytes.now (short _ p.prefixes p.ensures.some) (strays _ p.prefixes p.ensures.some c.if-has_stray_bit.ensures))
 
-pub returns-in_default-decode : goal.returns-in_default-decode
-unfolding told said action_in
-returns-in_default-decode c =
+pub returns-in_default-action_of : goal.returns-in_default-action_of
+unfolding told said
+returns-in_default-action_of c =
     let a = c.args in
     let p = c.in-Some in
     sym
     (said_unknown a.place a.bytes.now (short _ p.prefixes p.ensures.some) (strays _ p.prefixes p.ensures.some c.if-has_stray_bit.ensures)
-    (sym c.in_default-decode.ensures))
+    (sym c.in_default-action_of.ensures))
 
 pub returns-then-number_at-ne0 : goal.returns-then-number_at-ne0
-unfolding told said action_in
+unfolding told said
 returns-then-number_at-ne0 c =
     let a = c.args in
     let b = a.bytes.now in
@@ -60,18 +60,18 @@ returns-then-number_at-ne0 c =
     let spare : spare_bytes b ≡ true = sym (spare_number b) ∙ ap not (ne_eqb (number_at b 20 4) 0 (λ e. c.if-number_at-ne0.true (c.number_at.ensures.0 ∙ e))) in
     sym
     (said_spare a.place b _ (short _ p.prefixes p.ensures.some) (strays _ p.prefixes p.ensures.some c.if-has_stray_bit.ensures)
-    (sym c.in-Some-decode.ensures) spare)
+    (sym c.in-Some-action_of.ensures) spare)
 
 pub returns-then-has_stray_port : goal.returns-then-has_stray_port
-unfolding told said action_in
+unfolding told said
 returns-then-has_stray_port c =
     let p = c.in-Some in
     ported c.args.bytes.now p.prefixes p.ensures.some c.args.place _ _ (strays _ p.prefixes p.ensures.some c.if-has_stray_bit.ensures)
-    (sym c.in-Some-decode.ensures) c.number_at.ensures.0 c.if-number_at-ne0.false true c.if-has_stray_port.ensures
+    (sym c.in-Some-action_of.ensures) c.number_at.ensures.0 c.if-number_at-ne0.false true c.if-has_stray_port.ensures
 
 pub returns : goal.returns
-unfolding told said action_in
+unfolding told said
 returns c =
     let p = c.in-Some in
     ported c.args.bytes.now p.prefixes p.ensures.some c.args.place _ _ (strays _ p.prefixes p.ensures.some c.if-has_stray_bit.ensures)
-    (sym c.in-Some-decode.ensures) c.number_at.ensures.0 c.if-number_at-ne0.false false c.if-has_stray_port.ensures
+    (sym c.in-Some-action_of.ensures) c.number_at.ensures.0 c.if-number_at-ne0.false false c.if-has_stray_port.ensures

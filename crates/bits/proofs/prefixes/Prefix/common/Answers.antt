@@ -8,4 +8,4 @@ pub returns : goal.returns
 returns c =
     let p = c.args.self in
     let q = c.args.other in
-    rw c.requires (c.min-2.ensures ∙ ap₂ min c.same_leading.ensures c.min.ensures ∙ sym (common_prefix p.width p.value p.len q.value q.len))
+    rw c.requires (c.min-2.ensures ∙ ap₂ min c.same_leading-same.ensures c.min.ensures ∙ sym (common_prefix p.width p.value p.len q.value q.len))
