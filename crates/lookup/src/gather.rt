@@ -1,4 +1,5 @@
-// Gathering: the vectors of the five records reached, and what stands over them, by value.
+// Gathering: the vectors of the five records reached, and what stands over them, by value. Both arrays are written out: by `map` the
+// program is the same to the byte, each closure has to repeat its function's clauses, and four lines less of code are 74 more of proof.
 ghost use Rattle.std.specs.Prelude.{◌≡◌, map, ◌/◌, ◌<◌, length};
 ghost use Rattle.area.specs.Shape.{desk_shape, record_words};
 ghost use Rattle.lookup.specs.Walk.{vector_at};
@@ -37,7 +38,7 @@ fn aggregate_at(area: &[u32], row: usize) -> u32
     area[RECORD_WORDS * row + AGGREGATE_START]
 }
 
-// Their five aggregates.
+// The five aggregates, by field.
 pub fn aggregates_at(area: &[u32], records: [usize; 5]) -> [u32; 5]
     requires { AllInside area.now records }
     ensures { result ≡ map (aggregate_at area.now) records }

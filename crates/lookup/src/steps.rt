@@ -39,7 +39,8 @@ fn said_of(table: &[u8], tried: Scanned) -> Result<Answer, Refusal>
     }
 }
 
-// The steps over an area that has the five roots.
+// The steps over an area that has the five roots. That it has them stays a clause of three functions: a type of such an area would be
+// taken apart by each walk.
 fn go_through(table: &[u8], area: &[u32], header: &[u8; HEADER_BYTES]) -> Result<Answer, Refusal>
     requires { least_words ≤ length area.now }
     ensures { looked_said result ≡ steps_said table.now (lookup_steps desk_shape area.now (header_keys widths (header_values header.now))) }
