@@ -1,21 +1,16 @@
 // Reading requests: a value, or as many values as the number before them says.
 use crate::big_endian::BigEndian;
-use crate::sizes::ARRIVING_BYTES;
 use crate::stop::Stop;
 use std::io::{ErrorKind, Read};
 
 #[derive(Drop)]
 pub struct Requests<R> {
     input: R,
-    arriving: [u8; ARRIVING_BYTES],
 }
 
 impl<R: Read> Requests<R> {
     pub fn new(input: R) -> Requests<R> {
-        Requests {
-            input,
-            arriving: [0; ARRIVING_BYTES],
-        }
+        Requests { input }
     }
 
     pub fn value<T: BigEndian<N>, const N: usize>(&mut self) -> Result<T, Stop> {
@@ -24,20 +19,33 @@ impl<R: Read> Requests<R> {
         Ok(T::from_bytes(bytes))
     }
 
-    // A count and so many values, which then stand at the room's start.
+    // A count and so many bytes, which stand in the room as they come.
+    pub fn bytes<'a>(&mut self, room: &'a mut [u8]) -> Result<&'a mut [u8], Stop> {
+        let bytes = self.counted(room)?;
+        fill(&mut self.input, bytes)?;
+        Ok(bytes)
+    }
+
+    // A count and so many values, whose bytes arrive in a buffer that is free until the reply.
     pub fn values<'a, T: BigEndian<N>, const N: usize>(
         &mut self,
         room: &'a mut [T],
+        arriving: &mut [u8],
     ) -> Result<&'a mut [T], Stop> {
-        let count: u32 = self.value()?;
-        let values = room.get_mut(..count as usize).ok_or(Stop::End)?;
-        let (chunks, _) = self.arriving.as_chunks_mut::<N>();
+        let values = self.counted(room)?;
+        let (chunks, _) = arriving.as_chunks_mut::<N>();
         let chunks = chunks.get_mut(..values.len()).ok_or(Stop::End)?;
         fill(&mut self.input, chunks.as_flattened_mut())?;
         for (value, bytes) in values.iter_mut().zip(chunks.iter()) {
             *value = T::from_bytes(*bytes);
         }
         Ok(values)
+    }
+
+    // As much of the room, from its start, as the next number says.
+    fn counted<'a, T>(&mut self, room: &'a mut [T]) -> Result<&'a mut [T], Stop> {
+        let count: u32 = self.value()?;
+        room.get_mut(..count as usize).ok_or(Stop::End)
     }
 }
 

@@ -3,7 +3,7 @@
 use crate::op::Op;
 use crate::replies::Replies;
 use crate::requests::Requests;
-use crate::sizes::{MOST_BYTES, MOST_ENTRIES, MOST_HEADERS, MOST_WORDS};
+use crate::sizes::{MOST_BYTES, MOST_ENTRIES, MOST_WORDS};
 use crate::stop::Stop;
 use rules::HEADER_BYTES;
 use std::io::{Read, Write};
@@ -16,7 +16,6 @@ pub struct Session<R, W> {
     area: [u32; MOST_WORDS],
     list: [u16; MOST_ENTRIES],
     bytes: [u8; MOST_BYTES],
-    headers: [[u8; HEADER_BYTES]; MOST_HEADERS],
 }
 
 impl<R: Read, W: Write> Session<R, W> {
@@ -27,7 +26,6 @@ impl<R: Read, W: Write> Session<R, W> {
             area: [0; MOST_WORDS],
             list: [0; MOST_ENTRIES],
             bytes: [0; MOST_BYTES],
-            headers: [[0; HEADER_BYTES]; MOST_HEADERS],
         }
     }
 
@@ -46,7 +44,7 @@ impl<R: Read, W: Write> Session<R, W> {
     fn serve_one(&mut self, room: &mut [u8]) -> Result<(), Stop> {
         let byte: u8 = self.requests.value()?;
         let op = Op::try_from(byte)?;
-        let table = self.requests.values(room)?;
+        let table = self.requests.bytes(room)?;
         match op {
             Op::Build => self.build(table),
             Op::Lookup => self.lookup(table),
@@ -59,28 +57,28 @@ impl<R: Read, W: Write> Session<R, W> {
     }
 
     fn build(&mut self, table: &[u8]) -> Result<(), Stop> {
-        let area = self.requests.values(&mut self.area)?;
+        let area = self.requests.values(&mut self.area, self.replies.idle())?;
         self.replies.answer(face::ruledesk_build(table, area))?;
         self.replies.values(area)
     }
 
     fn lookup(&mut self, table: &[u8]) -> Result<(), Stop> {
-        let area = self.requests.values(&mut self.area)?;
-        let header = self.requests.values(&mut self.bytes)?;
+        let area = self.requests.values(&mut self.area, self.replies.idle())?;
+        let header = self.requests.bytes(&mut self.bytes)?;
         self.replies
             .answer(face::ruledesk_lookup(table, area, header))
     }
 
     fn pairs(&mut self, table: &[u8]) -> Result<(), Stop> {
-        let list = self.requests.values(&mut self.list)?;
+        let list = self.requests.values(&mut self.list, self.replies.idle())?;
         self.replies.answer(face::ruledesk_pairs(table, list))?;
         self.replies.values(list)
     }
 
     // The answer goes out before the output.
     fn judge(&mut self, table: &[u8]) -> Result<(), Stop> {
-        let order = self.requests.values(&mut self.list)?;
-        let output = self.requests.values(&mut self.bytes)?;
+        let order = self.requests.values(&mut self.list, self.replies.idle())?;
+        let output = self.requests.bytes(&mut self.bytes)?;
         self.replies
             .answer(face::ruledesk_judge(table, order, output))?;
         self.replies.send()?;
@@ -100,8 +98,9 @@ impl<R: Read, W: Write> Session<R, W> {
 
     // The answers for all headers, one after the other.
     fn many(&mut self, table: &[u8]) -> Result<(), Stop> {
-        let area = self.requests.values(&mut self.area)?;
-        let headers = self.requests.values(&mut self.headers)?;
+        let area = self.requests.values(&mut self.area, self.replies.idle())?;
+        let (room, _) = self.bytes.as_chunks_mut::<HEADER_BYTES>();
+        let headers = self.requests.values(room, self.replies.idle())?;
         for header in headers.iter() {
             self.replies
                 .answer(face::ruledesk_lookup(table, area, header))?;
