@@ -35,6 +35,7 @@ fn covers_in(a: Record<'_>, b: Record<'_>, f: usize) -> bool
 
 // Two tests of a field, and not one over a relation, which was slower in the pair list; and two records, since covering is asked both ways.
 // "Two rules share a header when, in each field, one prefix is a leading part of the other."
+#[inline(never)]
 pub fn shares(a: Record<'_>, b: Record<'_>) -> bool
     ensures { result ≡ share (rule_of a.entry.bytes.now) (rule_of b.entry.bytes.now) }
 {
@@ -42,6 +43,7 @@ pub fn shares(a: Record<'_>, b: Record<'_>) -> bool
 }
 
 // "One covers another when each of its prefixes is a leading part of the other's."
+#[inline(always)]
 pub fn covers(a: Record<'_>, b: Record<'_>) -> bool
     ensures { result ≡ covers (rule_of a.entry.bytes.now) (rule_of b.entry.bytes.now) }
 {
