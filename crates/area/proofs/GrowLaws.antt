@@ -41,16 +41,16 @@ unfolding made
 made_room b m s e room = let made_here = rw (down_new b s e) at room in record { room = made_here.room; small = made_here.small }
 
 -- every fact of a step: of a record made, and of a child followed
-by_kid : (P : State → Type 0) (b : ℕ) (s : State) → (kid b s ≡ 0 → P (made b s.area s.at s.next))
+pub by_kid : (P : State → Type 0) (b : ℕ) (s : State) → (kid b s ≡ 0 → P (made b s.area s.at s.next))
     → (0 < kid b s → P (mk s.area (kid b s) s.next)) → P (down b s)
 by_kid P b s new old =
     ⊎_elim (λ e. rw (down_new b s e) (new e)) (λ l. rw (down_old b s (λ e. omega arith)) (old l)) (eq-zero-or-pos (kid b s))
 
-down_le : (b : ℕ) (s : State) → s.next ≤ (down b s).next
+pub down_le : (b : ℕ) (s : State) → s.next ≤ (down b s).next
 unfolding made
 down_le b s = by_kid (λ t. s.next ≤ t.next) b s (λ e. omega arith) (λ l. omega arith)
 
-made_length : (b : ℕ) (a : List ℕ) (t n : ℕ) → record_words * (n + 1) ≤ length a → length (made b a t n).area ≡ length a
+pub made_length : (b : ℕ) (a : List ℕ) (t n : ℕ) → record_words * (n + 1) ≤ length a → length (made b a t n).area ≡ length a
 unfolding made
 made_length b a t n room =
     length_zeroed (record_words * n) (record_words * n + record_words) (set a (record_words * t + b) n) (omega arith) (simp length-set (omega arith)) ∙ length-set a (record_words * t + b) n
@@ -82,12 +82,12 @@ module _ (b : ℕ) (s : State) (hb : b < 2) (r : Ready s) where
       rw (made_linked b s.area s.at s.next hb r.inside room)
       (linked_kids _ _ s.next (s.next + 1) (omega arith) (cleared_kids s.area s.next room r.kids))
 
-  down_length : Roomy (down b s) (length s.area) → length (down b s).area ≡ length s.area
+  pub down_length : Roomy (down b s) (length s.area) → length (down b s).area ≡ length s.area
   unfolding made
   down_length = by_kid (λ t. Roomy t (length s.area) → length t.area ≡ length s.area) b s
       (λ e room. made_length b s.area s.at s.next room.room) (λ l room. refl)
 
-  down_ready : Roomy (down b s) (length s.area) → Ready (down b s)
+  pub down_ready : Roomy (down b s) (length s.area) → Ready (down b s)
   unfolding made Kids
   down_ready = by_kid (λ t. Roomy t (length s.area) → Ready t) b s
       (λ e room. record { roots = omega (arith, r.roots); inside = omega arith; whole = omega (arith, room.room, made_length b s.area s.at s.next room.room); kids = made_kids room.room })

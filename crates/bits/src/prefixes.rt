@@ -59,12 +59,13 @@ impl Prefix {
     }
 
     // The length of the longest leading part that two prefixes have in common: never more than either length.
+    #[tactic(auto, using(crate::proofs::CommonLaws::common_prefix))]
     pub fn common(self, other: Prefix) -> usize
         requires { other.width ≡ self.width }
         ensures { result ≡ common (prefix self.width self.value self.len) (prefix other.width other.value other.len) }
     {
-        let same = self.same_leading(other);
-        same.min(self.len.min(other.len))
+        let shorter = self.len.min(other.len);
+        self.same_leading(other).min(shorter)
     }
 }
 

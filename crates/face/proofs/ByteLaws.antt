@@ -13,7 +13,7 @@ use Rattle.rules.specs.declared.Refusal.TheVariants.{NotAllowed}
 use Rattle.rules.specs.Header.{header_bytes}
 use Rattle.rules.specs.Refusal.{said}
 
-one_byte : (v : ℕ) → v ∷ [] ≡ bytes_of 1 v
+pub one_byte : (v : ℕ) → v ∷ [] ≡ bytes_of 1 v
 unfolding bytes_of
 one_byte v = ap (λ (b : ℕ). b ∷ []) (sym (div-one v))
 

@@ -71,7 +71,10 @@ fn not_allowed(crossing: Crossing) -> Answer
 impl From<Refusal> for Answer {
     ghost from_gives = { λ refusal answer. Hands (said refusal) answer };
 
-    fn from(refusal: Refusal) -> Answer {
+    #[tactic(auto, using(rules::proofs::PlacedLaws::placed_said, rules::proofs::PlacedLaws::plain_said, rules::proofs::PlacedLaws::few_numbers))]
+    fn from(refusal: Refusal) -> Answer
+        ensures { Hands (said refusal) result }
+    {
         if let Refusal::NotAllowed(crossing) = refusal {
             return not_allowed(crossing);
         }
@@ -97,7 +100,9 @@ fn matched(falses: usize, place: usize, action: Action) -> Answer
 impl From<lookup::Answer> for Answer {
     ghost from_gives = { λ found answer. Hands (0 ∷ answer_values found) answer };
 
-    fn from(answer: lookup::Answer) -> Answer {
+    fn from(answer: lookup::Answer) -> Answer
+        ensures { Hands (0 ∷ answer_values answer) result }
+    {
         match answer.outcome {
             Outcome::NoMatch => carrying(0, [answer.falses as u64, 0]),
             Outcome::Match(place, action) => matched(answer.falses, place, action),

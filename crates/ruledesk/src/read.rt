@@ -20,18 +20,14 @@ const MOST_PASSED: usize = 65536;
 #[derive(Clone, Copy)]
 struct Unreadable;
 
-impl From<io::Error> for Unreadable {
-    fn from(_: io::Error) -> Self {
-        Unreadable
-    }
-}
-
 // The whole length with what `read` answered: `None` at the end. Nothing has 2^64 bytes: a length that is no `usize` is
 // not read to its end.
 fn count_in(whole: usize, answer: io::Result<usize>) -> Result<Option<usize>, Unreadable>
     ensures { result ≡ counted_in whole answer }
 {
-    let count = answer?;
+    let Ok(count) = answer else {
+        return Err(Unreadable);
+    };
     if count == 0 {
         return Ok(None);
     }

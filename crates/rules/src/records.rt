@@ -44,6 +44,7 @@ impl<'a> Record<'a> {
     }
 
     // Its action, which is known.
+    #[tactic(auto, using(crate::proofs::TableLaws::sound_known))]
     pub fn action(self) -> Action
         ensures { action_in self.entry.bytes.now ≡ Some result }
     {
